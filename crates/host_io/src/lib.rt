@@ -1,0 +1,17 @@
+//! What the host meets outside itself: where bytes come from, where they go, and how a run ends.
+#![tactic(auto)]
+
+mod cause;
+mod sink;
+mod source;
+mod standard;
+mod status;
+
+pub use cause::{Failed, Memory, SinkError};
+pub use sink::{MemSink, NeverSink, Sink};
+pub use source::{MemSource, NeverSource, Source};
+pub use standard::{StdNotes, StdSink, StdSource};
+pub use status::Status;
+
+#[cfg(test)]
+mod tests;
