@@ -1,0 +1,4 @@
+pub mod Depth
+pub mod Pixel
+pub mod Picture
+pub mod Laws

@@ -1,0 +1,7 @@
+//! Laws of the definitions, each as the contract of a function that does nothing.
+ghost use Rattle.argb_world.specs.Laws.{PointsTellThePicture};
+
+/// A frame and what is at each point tell the whole picture.
+pub fn points_tell_the_picture()
+    ensures { PointsTellThePicture }
+{}
