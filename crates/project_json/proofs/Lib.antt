@@ -1,0 +1,5 @@
+pub mod PartLemmas
+pub mod SolidLemmas
+pub mod ReadLemmas
+pub mod FormLemmas
+pub mod WorkedLemmas
