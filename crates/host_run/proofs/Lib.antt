@@ -1,0 +1,4 @@
+pub mod Known
+pub mod Blending
+pub mod Drawing
+pub mod Frames

@@ -1,0 +1,13 @@
+use Rattle.std.proofs.Common.{◌<◌, length, arith}
+use Rattle.host_run.specs.Input.{longest_text}
+use Rattle.host_run.proofs.Known.{takes_after, on_err}
+use Rattle.host_run.proofs.input.read_to_end.Goals as goal
+
+pub returns-in_err-count-clause-none_lost : goal.returns-in_err-count-clause-none_lost
+returns-in_err-count-clause-none_lost g c =
+    on_err c.from_residual-in_err-count.result _ (takes_after _ _ _ _ c.pieces.invariant.taken c.in_err-count.ensures.none_lost)
+
+pub returns-clause-too_long : goal.returns-clause-too_long
+returns-clause-too_long g c =
+    let more : longest_text < length c.pieces.bytes.items = omega (arith, c.pieces.bytes.ok.0) in
+    λ _. record { bytes = c.pieces.bytes.items; taken = c.pieces.invariant.taken; more = more }

@@ -1,0 +1,15 @@
+pub mod Blend
+pub mod Rows
+pub mod Run
+pub mod Shown
+pub mod Stack
+pub mod Afr
+pub mod Laws
+pub mod Outcome
+pub mod Output
+pub mod Ending
+pub mod Header
+pub mod Headline
+pub mod Input
+pub mod Worked
+pub mod Written
