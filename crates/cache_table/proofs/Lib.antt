@@ -1,0 +1,5 @@
+pub mod Acting
+pub mod Keeping
+pub mod Settling
+pub mod Slotted
+pub mod Values

@@ -1,0 +1,22 @@
+use Rattle.std.proofs.Common.{◌≡◌, true, sym, subst, arith, ◌-◌, ◌≤◌}
+use Rattle.std.specs.Prelude.{vec_len, vec_capacity, Some, position, option_map, slice_get}
+use Rattle.cache_core.specs.Rows.{is_running}
+use Rattle.cache_core.specs.Core.{is_settled}
+use Rattle.cache_table.specs.Kept.{is_kept}
+use Rattle.cache_table.specs.Cache.{core_of}
+use Rattle.cache_table.proofs.Keeping.{item_from, need_within, running_is}
+use Rattle.cache_table.proofs.Acting.{after_abandon}
+use Rattle.cache_table.proofs.ledger.Ledger.abandon.Goals as goal
+
+pub invariant_of-self : goal.invariant_of-self
+invariant_of-self g c =
+    let s = c.self.inside in
+    let settled = subst (λ s. is_settled (core_of s).budget (core_of s).rows ≡ true) (sym c.self.view_is) c.requires.settled in
+    let at = subst (λ s. position (is_kept c.args.class c.args.key) s.rows ≡ Some c.args.place) (sym c.self.view_is) c.requires.at in
+    let running = subst (λ s. option_map (λ kept. is_running c.args.pass kept.row.state) (slice_get s.rows c.args.place) ≡ Some true) (sym c.self.view_is) c.requires.running in
+    let item = item_from (λ kept. is_running c.args.pass kept.row.state) s.rows c.args.place true running in
+    let need : 3 ≤ s.owed = omega (arith, need_within s.rows c.args.place item.0 item.1, running_is c.args.pass item.0.row.state item.2, c.self.invariant.owed_is) in
+    after_abandon s.budget s.history.items c.push_reserved.new.self.items s.rows c.take_out.new.self s.live s.owed (vec_len s.history) (vec_capacity s.history)
+    (s.owed - 3) (vec_len c.push_reserved.new.self) (vec_capacity c.push_reserved.new.self) c.args.pass c.args.class c.args.key c.args.place
+    c.self.invariant settled at running (omega (arith, need)) c.push_reserved.ensures.len
+    (omega (arith, need, c.push_reserved.ensures.len, c.push_reserved.ensures.capacity, c.self.invariant.room)) c.push_reserved.ensures.items c.take_out.ensures

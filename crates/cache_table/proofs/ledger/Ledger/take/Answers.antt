@@ -1,0 +1,28 @@
+use Rattle.std.proofs.Common.{◌≡◌, true, sym, ◌∙◌, ap, refl, subst, arith, ◌++◌, ◌∷◌, [], ◌+◌}
+use Rattle.std.specs.Prelude.{vec_len, vec_capacity, Some, position, option_map, slice_get}
+use Rattle.cache_core.specs.Rows.{is_live}
+use Rattle.cache_core.specs.Core.{is_settled}
+use Rattle.cache_table.specs.Kept.{is_kept}
+use Rattle.cache_table.specs.Cache.{core_of, is_any_live}
+use Rattle.cache_table.specs.Kept.{moved_last}
+use Rattle.cache_table.specs.Slots.{state_in}
+use Rattle.cache_table.proofs.Keeping.{through}
+use Rattle.cache_table.proofs.Acting.{after_hit}
+use Rattle.cache_core.specs.declared.entry.Act.TheVariants.{Hit}
+use Rattle.cache_table.proofs.ledger.Ledger.take.Goals as goal
+
+pub invariant_of-self-2 : goal.invariant_of-self-2
+invariant_of-self-2 g c =
+    let s = c.self.inside in
+    let settled = subst (λ s. is_settled (core_of s).budget (core_of s).rows ≡ true) (sym c.self.view_is) c.requires.settled in
+    let at = subst (λ s. position (is_kept c.args.class c.args.key) s.rows ≡ Some c.args.place) (sym c.self.view_is) c.requires.at in
+    let live = subst (λ s. option_map (λ kept. is_any_live kept.row.state) (slice_get s.rows c.args.place) ≡ Some true) (sym c.self.view_is) c.requires.live in
+    let serial = c.in_ok-serial.serial in
+    after_hit s.budget s.history.items c.push_reserved.new.self.items s.rows c.move_last.new.self s.live s.owed (vec_len s.history) (vec_capacity s.history)
+    (s.owed + 1) (vec_len c.push_reserved.new.self) (vec_capacity c.push_reserved.new.self) c.args.pass c.args.class c.args.key serial c.args.place
+    c.self.invariant settled at live
+    (through (is_live serial) (λ kept. kept.row.state) (slice_get s.rows c.args.place) (state_in c.phase.result.now) true c.phase.ensures.state c.in_ok-serial.ensures.serial)
+    refl (omega (arith, c.push_reserved.ensures.len, c.reserve.ensures.len))
+    (omega (arith, c.push_reserved.ensures.len, c.push_reserved.ensures.capacity, c.in_ok-reserve.ensures.room))
+    (c.push_reserved.ensures.items ∙ ap (λ l. l ++ record { pass = c.args.pass; class = c.args.class; key = c.args.key; act = Hit serial } ∷ []) c.reserve.ensures.items)
+    (c.move_last.ensures ∙ ap (moved_last c.args.place) c.in_ok-hold.ensures.ok)

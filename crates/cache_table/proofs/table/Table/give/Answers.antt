@@ -1,0 +1,44 @@
+use Rattle.cache_core.specs.declared.entry.Entry.{Entry}
+use Rattle.std.proofs.Common.{append_assoc, ◌≡◌, true, sym, ◌∙◌, ap, subst, ◌++◌, ◌∷◌, []}
+use Rattle.cache_core.specs.Rows.{is_held_by, is_live}
+use Rattle.cache_core.specs.Core.{is_in}
+use Rattle.cache_core.specs.declared.entry.Act.TheVariants.{Give}
+use Rattle.cache_table.specs.Kept.{HasValue}
+use Rattle.cache_table.specs.Cache.{state_at}
+use Rattle.cache_table.proofs.Values.{has-released}
+use Rattle.cache_table.proofs.Settling.{test_there, not_absent, test_back}
+use Rattle.cache_table.proofs.table.Table.give.Goals as goal
+
+pub give-requires-clause-held : goal.give-requires-clause-held
+give-requires-clause-held g c =
+    let passes = subst (λ s. is_in (is_held_by c.args.pass) (state_at c.args.class c.args.key s) ≡ true) (sym c.self.view_is) c.requires in
+    let place = sym c.place_of.ensures ∙ c.in-Some.is in
+    let old = c.self.inside.ledger in
+    test_there (is_held_by c.args.pass) c.args.class c.args.key old.rows c.in-Some.place place passes
+
+pub unreachable-requires : goal.unreachable-requires
+unreachable-requires g c =
+    let passes = subst (λ s. is_in (is_held_by c.args.pass) (state_at c.args.class c.args.key s) ≡ true) (sym c.self.view_is) c.requires in
+    not_absent (is_held_by c.args.pass) c.args.class c.args.key c.self.inside.ledger.rows (sym c.place_of.ensures ∙ c.in-None.is) passes
+
+pub returns-clause-adds : goal.returns-clause-adds
+returns-clause-adds g c =
+    let place = sym c.place_of.ensures ∙ c.in-Some.is in
+    let given = c.give.ensures.adds in
+    let evicts = c.settle.ensures.evicts in
+    let entry : Entry = record { pass = c.args.pass; class = c.args.class; key = c.args.key; act = Give given.0 } in (
+      given.0,
+      subst (λ s. is_in (is_live given.0) (state_at c.args.class c.args.key s) ≡ true) c.self.view_is
+          (test_back (is_live given.0) c.args.class c.args.key c.self.inside.ledger.rows c.in-Some.place place given.1),
+      record {
+        budget = c.settle.ensures.budget ∙ given.2.budget ∙ ap (λ s. s.budget) c.self.view_is;
+        evicts = evicts.0;
+        history = evicts.2 ∙ ap (λ l. l ++ evicts.0) given.2.history ∙ append_assoc c.self.inside.ledger.history (entry ∷ []) evicts.0 ∙ ap (λ s. s.history ++ entry ∷ evicts.0) c.self.view_is;
+        each = evicts.1;
+      },
+    )
+
+pub returns-clause-values : goal.returns-clause-values
+returns-clause-values g c = λ class key serial value h.
+    subst (λ s. HasValue class key serial value s.rows) c.self.view_is
+    (has-released class key serial value c.args.pass c.self.inside.ledger.rows c.give.new.self.rows c.in-Some.place c.give.ensures.rows (c.settle.ensures.values class key serial value h))

@@ -1,0 +1,19 @@
+use Rattle.std.proofs.Common.{◌∙◌, ap, subst, ◌++◌, ◌∷◌, [], append_assoc}
+use Rattle.cache_core.proofs.Serials.{all-push}
+use Rattle.cache_table.specs.Kept.{HasValue}
+use Rattle.cache_table.specs.Cache.{IsEvictBy}
+use Rattle.cache_table.proofs.Values.{has-remove}
+use Rattle.cache_table.proofs.table.settle.Goals as goal
+
+pub loop-place-preserved : goal.loop-place-preserved
+loop-place-preserved g c =
+    let before = c.loop-place.invariant in
+    let adds = c.evict.ensures.adds in (
+      adds.2.budget ∙ before.0,
+      (
+        before.1.0 ++ adds.0 ∷ [],
+        all-push (IsEvictBy c.args.pass) before.1.0 adds.0 before.1.1 adds.1,
+        adds.2.history ∙ ap (λ l. l ++ adds.0 ∷ []) before.1.2 ∙ append_assoc c.args.ledger.now.history before.1.0 (adds.0 ∷ []),
+      ),
+      λ class key serial value h. before.2 class key serial value (has-remove class key serial value c.loop-place.ledger.rows c.in-Some.place (subst (HasValue class key serial value) c.evict.ensures.rows h)),
+    )

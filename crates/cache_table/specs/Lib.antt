@@ -1,0 +1,5 @@
+pub mod Cache
+pub mod Kept
+pub mod Ledger
+pub mod Seen
+pub mod Slots

@@ -1,0 +1,278 @@
+ghost use Rattle.std.specs.Prelude.{◌≡◌, ◌<◌, ◌≤◌, ◌+◌, [], ◌++◌, ◌∷◌, OnOk, OnErr, IfOk, OnSome, IfSome, IfNone, length, position, option_map, slice_get, remove, Some, None, true, false, ℕ, IsTrue, option_and_then, vec_len, vec_capacity};
+ghost use Rattle.std.specs.Arc.{arc_value};
+ghost use Rattle.cache_core.specs.Rows.{held_by, released_by, is_running, is_live, is_held_by, row_in, state_of, is_named, live_bytes, is_idle};
+ghost use Rattle.cache_core.specs.Core.{IsSettled, may_step, rows_after, is_settled};
+ghost use Rattle.cache_core.specs.declared.row.State.TheVariants.{Running as IsRunning, Live as IsLive};
+ghost use Rattle.cache_core.specs.declared.entry.Act.TheVariants.{Start, Hit, Finish, Abandon, Give, Evict};
+ghost use Rattle.cache_core.specs.declared.entry.Entry.{Entry};
+ghost use Rattle.cache_table.specs.Kept.{is_kept, with_state, with_value, is_kept_idle, changed_at, moved_last, serial_value};
+ghost use Rattle.cache_table.specs.Cache.{core_of, IsKept, IsSame, Adds, IsEvictBy, is_any_live};
+
+use crate::phase::{Seen, Turn};
+use crate::rows::Rows;
+use cache_core::{Act, Entry};
+use host_io::Memory;
+use std::alloc::Global;
+use std::marker::Model;
+use std::sync::Arc;
+
+// The rows with their history. Each change makes one entry, and takes no memory but where it says so.
+#[derive(Drop)]
+pub(crate) struct Ledger<V> {
+    budget: u64,
+    rows: Rows<V>,
+    // The sizes of the rows, added up.
+    live: u128,
+    // How many entries must have room.
+    owed: usize,
+    history: Vec<Entry>,
+}
+
+impl<V> Model for Ledger<V> {
+    ghost use Rattle.std.specs.Prelude.{◌-◌, vec_len, vec_capacity};
+    ghost use Rattle.cache_table.specs.Cache.{Cache};
+
+    ghost Value = { Cache V };
+
+    ghost use Rattle.cache_table.specs.Ledger.{IsLedger};
+
+    ghost view = { λ l. record { budget = l.budget; history = l.history.items; rows = l.rows; spare = vec_capacity l.history - vec_len l.history } };
+
+    ghost invariant = { λ l. IsLedger l.budget l.history.items l.rows l.live l.owed (vec_len l.history) (vec_capacity l.history) };
+}
+
+// Makes room for the entries that must follow, and for so many more.
+fn reserve(history: &mut Vec<Entry>, owed: usize, more: usize) -> Result<(), Memory>
+    ensures items { history.new.items ≡ history.old.items }
+    ensures len { vec_len history.new ≡ vec_len history.old }
+    ensures room { OnOk result (vec_len history.new + (owed + more) ≤ vec_capacity history.new) }
+    ensures capacity { vec_capacity history.old ≤ vec_capacity history.new }
+{
+    match owed.checked_add(more) {
+        Some(entries) => Ok(history.reserve(entries)?),
+        None => Err(Memory),
+    }
+}
+
+impl<V: Drop> Ledger<V> {
+    ghost use Rattle.cache_table.specs.Seen.{seen_of};
+
+    pub(crate) fn new(alloc: Global, budget: u64) -> Ledger<V>
+        ensures budget { result.budget ≡ budget }
+        ensures history { result.history ≡ [] }
+        ensures rows { result.rows ≡ [] }
+    {
+        Ledger {
+            budget,
+            rows: Rows::new(alloc),
+            live: 0,
+            owed: 0,
+            history: Vec::new(alloc),
+        }
+    }
+
+    // Its entries.
+    pub(crate) fn history(&self) -> &[Entry]
+        ensures entries { result.now ≡ self.now.history }
+        ensures kept { IsKept self.now }
+    {
+        self.history.as_slice()
+    }
+
+    // Where the row of a class and key stands.
+    pub(crate) fn place_of(&self, class: u8, key: u128) -> Option<usize>
+        ensures { result ≡ position (is_kept class key) self.now.rows }
+    {
+        self.rows.place_of(class, key)
+    }
+
+    // What is seen of the row at a place.
+    pub(crate) fn seen(&self, place: usize) -> Seen
+        requires { place < length self.now.rows }
+        ensures { option_map (λ kept. seen_of (Some kept.row.state)) (slice_get self.now.rows place) ≡ Some result }
+    {
+        self.rows.phase(place).seen()
+    }
+
+    // Whether the pass holds the row at a place.
+    #[cfg(test)]
+    pub(crate) fn is_held(&self, place: usize, pass: u32) -> bool
+        requires { place < length self.now.rows }
+        ensures { option_map (λ kept. is_held_by pass kept.row.state) (slice_get self.now.rows place) ≡ Some result }
+    {
+        self.rows.phase(place).is_held_by(pass)
+    }
+
+    // Where the row stands that has to go, if the core is not settled.
+    pub(crate) fn next_out(&self) -> Option<usize>
+        ensures settled { IfNone result (IsSettled (core_of self.now)) }
+        ensures over { OnSome result (is_settled (core_of self.now).budget (core_of self.now).rows ≡ false) }
+        ensures first { IfSome result (λ place. position is_kept_idle self.now.rows ≡ Some place) }
+    {
+        if self.live <= u128::from(self.budget) {
+            return None;
+        }
+        self.rows.first_idle()
+    }
+
+    // A Running row more, the last.
+    pub(crate) fn start(
+        &mut self,
+        alloc: Global,
+        pass: u32,
+        class: u8,
+        key: u128,
+    ) -> Result<(), Memory>
+        requires settled { IsSettled (core_of self.old) }
+        requires absent { position (is_kept class key) self.old.rows ≡ None }
+        ensures adds { OnOk result (Adds self.old self.new (record { pass = pass; class = class; key = key; act = Start })) }
+        ensures rows { OnOk result (self.new.rows ≡ self.old.rows ++ record { row = row_in class key (IsRunning pass); value = None } ∷ []) }
+        ensures err { OnErr result (IsSame self.old self.new) }
+    {
+        let turn = Turn::new(alloc, pass)?;
+        reserve(&mut self.history, self.owed, 4)?;
+        self.rows.add(class, key, turn)?;
+        self.history.push_reserved(Entry {
+            pass,
+            class,
+            key,
+            act: Act::Start,
+        });
+        self.owed += 3;
+        Ok(())
+    }
+
+    // A Hit of the pass on the Live row of the class and key, which stands at the place.
+    pub(crate) fn take(
+        &mut self,
+        pass: u32,
+        class: u8,
+        key: u128,
+        place: usize,
+    ) -> Result<(u64, Arc<V>), Memory>
+        requires settled { IsSettled (core_of self.old) }
+        requires at { position (is_kept class key) self.old.rows ≡ Some place }
+        requires live { option_map (λ kept. is_any_live kept.row.state) (slice_get self.old.rows place) ≡ Some true }
+        ensures adds { IfOk result (λ taken. Adds self.old self.new (record { pass = pass; class = class; key = key; act = Hit taken.0 })) }
+        ensures rows { OnOk result (self.new.rows ≡ moved_last place (changed_at (with_state (held_by pass)) place self.old.rows)) }
+        ensures value { IfOk result (λ taken. option_and_then (λ kept. serial_value kept.row.state kept.value) (slice_get self.old.rows place) ≡ Some (taken.0, arc_value taken.1)) }
+        ensures err { OnErr result (IsSame self.old self.new) }
+    {
+        let (serial, value) = self.rows.phase(place).shared()?;
+        reserve(&mut self.history, self.owed, 2)?;
+        self.rows.hold(place, pass)?;
+        self.rows.move_last(place);
+        self.history.push_reserved(Entry {
+            pass,
+            class,
+            key,
+            act: Act::Hit { serial },
+        });
+        self.owed += 1;
+        Ok((serial, value))
+    }
+
+    // An entry that changes no row.
+    pub(crate) fn note(&mut self, entry: Entry) -> Result<(), Memory>
+        requires steps { may_step (core_of self.old) entry ≡ true }
+        requires plain { rows_after entry.pass entry.class entry.key entry.act (core_of self.old).rows ≡ (core_of self.old).rows }
+        ensures adds { OnOk result (Adds self.old self.new entry) }
+        ensures rows { OnOk result (self.new.rows ≡ self.old.rows) }
+        ensures err { OnErr result (IsSame self.old self.new) }
+    {
+        reserve(&mut self.history, self.owed, 1)?;
+        self.history.push_reserved(entry);
+        Ok(())
+    }
+
+    // A Finish of the pass, which computed the row at the place.
+    pub(crate) fn finish(
+        &mut self,
+        pass: u32,
+        class: u8,
+        key: u128,
+        place: usize,
+        size: u32,
+        value: Arc<V>,
+    ) -> u64
+        requires settled { IsSettled (core_of self.old) }
+        requires at { position (is_kept class key) self.old.rows ≡ Some place }
+        requires running { option_map (λ kept. is_running pass kept.row.state) (slice_get self.old.rows place) ≡ Some true }
+        ensures serial { result ≡ length self.old.history }
+        ensures adds { Adds self.old self.new (record { pass = pass; class = class; key = key; act = Finish result size }) }
+        ensures rows { self.new.rows ≡ moved_last place (changed_at (with_value (IsLive result size (pass ∷ [])) (arc_value value)) place self.old.rows) }
+    {
+        let serial = self.history.as_slice().len() as u64;
+        self.rows.finish(place, pass, serial, size, value);
+        self.rows.move_last(place);
+        self.history.push_reserved(Entry {
+            pass,
+            class,
+            key,
+            act: Act::Finish { serial, size },
+        });
+        self.live += u128::from(size);
+        self.owed -= 1;
+        serial
+    }
+
+    // An Abandon of the pass, which computed the row at the place.
+    pub(crate) fn abandon(&mut self, pass: u32, class: u8, key: u128, place: usize)
+        requires settled { IsSettled (core_of self.old) }
+        requires at { position (is_kept class key) self.old.rows ≡ Some place }
+        requires running { option_map (λ kept. is_running pass kept.row.state) (slice_get self.old.rows place) ≡ Some true }
+        ensures adds { Adds self.old self.new (record { pass = pass; class = class; key = key; act = Abandon }) }
+        ensures rows { self.new.rows ≡ remove self.old.rows place }
+    {
+        self.rows.take_out(place);
+        self.history.push_reserved(Entry {
+            pass,
+            class,
+            key,
+            act: Act::Abandon,
+        });
+        self.owed -= 3;
+    }
+
+    // A Give of the pass, which holds the row at the place.
+    pub(crate) fn give(&mut self, pass: u32, class: u8, key: u128, place: usize)
+        requires settled { IsSettled (core_of self.old) }
+        requires at { position (is_kept class key) self.old.rows ≡ Some place }
+        requires held { option_map (λ kept. is_held_by pass kept.row.state) (slice_get self.old.rows place) ≡ Some true }
+        ensures adds { (serial : ℕ) × (option_map (λ kept. is_live serial kept.row.state) (slice_get self.old.rows place) ≡ Some true) × Adds self.old self.new (record { pass = pass; class = class; key = key; act = Give serial }) }
+        ensures rows { self.new.rows ≡ moved_last place (changed_at (with_state (released_by pass)) place self.old.rows) }
+    {
+        let serial = self.rows.phase(place).serial();
+        self.rows.release(place, pass);
+        self.rows.move_last(place);
+        self.history.push_reserved(Entry {
+            pass,
+            class,
+            key,
+            act: Act::Give { serial },
+        });
+        self.owed -= 1;
+    }
+
+    // An Evict of the first idle row, which stands at the place.
+    pub(crate) fn evict(&mut self, pass: u32, place: usize)
+        requires over { is_settled (core_of self.old).budget (core_of self.old).rows ≡ false }
+        requires first { position is_kept_idle self.old.rows ≡ Some place }
+        ensures adds { (entry : Entry) × IsEvictBy pass entry × Adds self.old self.new entry }
+        ensures rows { self.new.rows ≡ remove self.old.rows place }
+    {
+        let name = self.rows.name(place);
+        let phase = self.rows.phase(place);
+        let serial = phase.serial();
+        let size = phase.size();
+        self.rows.take_out(place);
+        self.history.push_reserved(Entry {
+            pass,
+            class: name.class,
+            key: name.key,
+            act: Act::Evict { serial },
+        });
+        self.live -= u128::from(size);
+        self.owed -= 1;
+    }
+}

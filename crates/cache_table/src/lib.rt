@@ -1,0 +1,12 @@
+//! The table of the Compute Cache: its rows with their values, and the history of what was done with them.
+#![tactic(auto)]
+
+mod ledger;
+mod phase;
+mod rows;
+mod table;
+#[cfg(test)]
+mod tests;
+
+pub use phase::Seen;
+pub use table::Table;

@@ -1,0 +1,163 @@
+ghost use Rattle.std.specs.Prelude.{◌≡◌, ◌++◌, [], ◌∷◌, ◌⊎◌, ℕ, OnOk, OnErr, IfOk, Some, None, true, length, List};
+ghost use Rattle.std.specs.List.{AllByRecursion};
+ghost use Rattle.std.specs.Arc.{arc_value};
+ghost use Rattle.cache_core.specs.Rows.{is_running, is_held_by, is_live};
+ghost use Rattle.cache_core.specs.Core.{IsSettled, may_step, is_in};
+ghost use Rattle.cache_core.specs.declared.entry.Entry.{Entry};
+ghost use Rattle.cache_core.specs.declared.entry.Act.TheVariants.{Start, Hit, Pending, NotCached, Finish, Abandon, Give};
+ghost use Rattle.cache_table.specs.Kept.{HasValue};
+ghost use Rattle.cache_table.specs.Cache.{core_of, state_at, is_any_live, IsKept, IsSame, Adds, AddsAndEvicts, IsEvictBy, HasNoNewValue, HasOneNewValue, IsNote};
+
+use crate::ledger::Ledger;
+use crate::phase::Seen;
+use cache_core::Entry;
+use host_io::Memory;
+use std::alloc::Global;
+use std::marker::Model;
+use std::sync::Arc;
+
+/// The rows of a cache with their values, and the history of what was done with them.
+///
+/// Contracts see the history, the rows, and how many entries more the history has room for.
+#[derive(Drop)]
+pub struct Table<V> {
+    pub(crate) ledger: Ledger<V>,
+}
+
+impl<V> Model for Table<V> {
+    ghost use Rattle.cache_table.specs.Cache.{Cache, core_of};
+    ghost use Rattle.cache_core.specs.Core.{IsSettled};
+
+    ghost Value = { Cache V };
+
+    ghost view = { λ t. t.ledger };
+
+    ghost invariant = { λ t. IsSettled (core_of t.ledger) };
+}
+
+// Evicts the first idle row until the core is settled.
+fn settle<V: Drop>(ledger: &mut Ledger<V>, pass: u32)
+    ensures settled { IsSettled (core_of ledger.new) }
+    ensures budget { ledger.new.budget ≡ ledger.old.budget }
+    ensures evicts { (evicts : List Entry) × AllByRecursion (IsEvictBy pass) evicts × (ledger.new.history ≡ ledger.old.history ++ evicts) }
+    ensures values { HasNoNewValue ledger.old ledger.new }
+{
+    while let Some(place) = ledger.next_out() {
+        ledger.evict(pass, place);
+    }
+}
+
+impl<V: Drop> Table<V> {
+    ghost use Rattle.cache_table.specs.Seen.{seen_of};
+
+    /// A table with no rows and no history.
+    pub fn new(alloc: Global, budget: u64) -> Result<Table<V>, Memory>
+        ensures budget { IfOk result (λ table. table.budget ≡ budget) }
+        ensures history { IfOk result (λ table. table.history ≡ []) }
+        ensures rows { IfOk result (λ table. table.rows ≡ []) }
+    {
+        Ok(Table {
+            ledger: Ledger::new(alloc, budget),
+        })
+    }
+
+    /// The entries made so far: a legal history, whose core is settled.
+    pub fn history(&self) -> &[Entry]
+        ensures entries { result.now ≡ self.now.history }
+        ensures kept { IsKept self.now }
+        ensures settled { IsSettled (core_of self.now) }
+    {
+        self.ledger.history()
+    }
+
+    /// What is there of a class and key.
+    pub fn look(&self, class: u8, key: u128) -> Seen
+        ensures { result ≡ seen_of (state_at class key self.now) }
+    {
+        match self.ledger.place_of(class, key) {
+            Some(place) => self.ledger.seen(place),
+            None => Seen::No,
+        }
+    }
+
+    /// A pass begins to compute the value of a class and key of which there is no row. Takes the room for all that
+    /// must follow.
+    pub fn start(&mut self, alloc: Global, pass: u32, class: u8, key: u128) -> Result<(), Memory>
+        requires { state_at class key self.old ≡ None }
+        ensures adds { OnOk result (Adds self.old self.new (record { pass = pass; class = class; key = key; act = Start })) }
+        ensures values { OnOk result (HasNoNewValue self.old self.new) }
+        ensures err { OnErr result (IsSame self.old self.new) }
+    {
+        self.ledger.start(alloc, pass, class, key)
+    }
+
+    /// A pass takes the value of a class and key that is Live. Takes the room for its Give.
+    pub fn take(&mut self, pass: u32, class: u8, key: u128) -> Result<(u64, Arc<V>), Memory>
+        requires { is_in is_any_live (state_at class key self.old) ≡ true }
+        ensures adds { IfOk result (λ taken. Adds self.old self.new (record { pass = pass; class = class; key = key; act = Hit taken.0 })) }
+        ensures value { IfOk result (λ taken. HasValue class key taken.0 (arc_value taken.1) self.old.rows) }
+        ensures values { OnOk result (HasNoNewValue self.old self.new) }
+        ensures err { OnErr result (IsSame self.old self.new) }
+    {
+        match self.ledger.place_of(class, key) {
+            Some(place) => self.ledger.take(pass, class, key, place),
+            None => unreachable!(),
+        }
+    }
+
+    /// Notes an entry that changes no row.
+    pub fn note(&mut self, entry: Entry) -> Result<(), Memory>
+        requires steps { may_step (core_of self.old) entry ≡ true }
+        requires plain { IsNote entry.act }
+        ensures adds { OnOk result (Adds self.old self.new entry) }
+        ensures values { OnOk result (HasNoNewValue self.old self.new) }
+        ensures err { OnErr result (IsSame self.old self.new) }
+    {
+        self.ledger.note(entry)
+    }
+
+    /// The pass puts in the value that it computed, and then the first idle rows go until the core is settled.
+    /// Answers the serial.
+    pub fn finish(&mut self, pass: u32, class: u8, key: u128, size: u32, value: Arc<V>) -> u64
+        requires { is_in (is_running pass) (state_at class key self.old) ≡ true }
+        ensures serial { result ≡ length self.old.history }
+        ensures adds { AddsAndEvicts self.old self.new (record { pass = pass; class = class; key = key; act = Finish result size }) }
+        ensures values { HasOneNewValue self.old self.new class key result (arc_value value) }
+    {
+        match self.ledger.place_of(class, key) {
+            Some(place) => {
+                let serial = self.ledger.finish(pass, class, key, place, size, value);
+                settle(&mut self.ledger, pass);
+                serial
+            }
+            None => unreachable!(),
+        }
+    }
+
+    /// The pass gives up its computation, and its row goes.
+    pub fn abandon(&mut self, pass: u32, class: u8, key: u128)
+        requires { is_in (is_running pass) (state_at class key self.old) ≡ true }
+        ensures adds { Adds self.old self.new (record { pass = pass; class = class; key = key; act = Abandon }) }
+        ensures values { HasNoNewValue self.old self.new }
+    {
+        match self.ledger.place_of(class, key) {
+            Some(place) => self.ledger.abandon(pass, class, key, place),
+            None => unreachable!(),
+        }
+    }
+
+    /// The pass gives a value back that it holds, and then the first idle rows go until the core is settled.
+    pub fn give(&mut self, pass: u32, class: u8, key: u128)
+        requires { is_in (is_held_by pass) (state_at class key self.old) ≡ true }
+        ensures adds { (serial : ℕ) × (is_in (is_live serial) (state_at class key self.old) ≡ true) × AddsAndEvicts self.old self.new (record { pass = pass; class = class; key = key; act = Give serial }) }
+        ensures values { HasNoNewValue self.old self.new }
+    {
+        match self.ledger.place_of(class, key) {
+            Some(place) => {
+                self.ledger.give(pass, class, key, place);
+                settle(&mut self.ledger, pass);
+            }
+            None => unreachable!(),
+        }
+    }
+}

@@ -1,0 +1,226 @@
+ghost use Rattle.std.specs.Prelude.{◌≡◌};
+ghost use Rattle.cache_core.specs.Core.{is_in};
+ghost use Rattle.cache_core.specs.Rows.{is_held_by};
+ghost use Rattle.cache_table.specs.Cache.{state_at};
+
+use crate::{Seen, Table};
+use cache_core::{Act, Core, Entry, State};
+use host_io::Memory;
+use std::alloc::Global;
+use std::sync::Arc;
+use std::test::Fail;
+
+const A: u128 = 10;
+
+const B: u128 = 11;
+
+fn entry(pass: u32, key: u128, act: Act) -> Entry
+    ensures { result ≡ record { pass = pass; class = 0; key = key; act = act } }
+{
+    Entry {
+        pass,
+        class: 0,
+        key,
+        act,
+    }
+}
+
+// Starts, where there is no row.
+fn begin(alloc: Global, table: &mut Table<u32>, pass: u32, key: u128) -> Result<bool, Memory> {
+    match table.look(0, key) {
+        Seen::No => {
+            table.start(alloc, pass, 0, key)?;
+            Ok(true)
+        }
+        _ => Ok(false),
+    }
+}
+
+// Finishes, where the pass computes the value.
+fn end(table: &mut Table<u32>, pass: u32, key: u128, size: u32, value: Arc<u32>) -> Option<u64> {
+    match table.look(0, key) {
+        Seen::Running { owner } if owner == pass => {
+            Some(table.finish(pass, 0, key, size, value))
+        }
+        _ => None,
+    }
+}
+
+// Gives up, where the pass computes the value.
+fn drop_out(table: &mut Table<u32>, pass: u32, key: u128) -> bool {
+    match table.look(0, key) {
+        Seen::Running { owner } if owner == pass => {
+            table.abandon(pass, 0, key);
+            true
+        }
+        _ => false,
+    }
+}
+
+// Takes, where there is a value.
+fn hit(table: &mut Table<u32>, pass: u32, key: u128) -> Result<Option<(u64, Arc<u32>)>, Memory> {
+    match table.look(0, key) {
+        Seen::Live { .. } => Ok(Some(table.take(pass, 0, key)?)),
+        _ => Ok(None),
+    }
+}
+
+// Whether the pass holds the value.
+fn is_held(table: &Table<u32>, pass: u32, key: u128) -> bool
+    ensures { result ≡ is_in (is_held_by pass) (state_at 0 key table.now) }
+{
+    match table.ledger.place_of(0, key) {
+        Some(place) => table.ledger.is_held(place, pass),
+        None => false,
+    }
+}
+
+// Gives back, where the pass holds the value.
+fn back(table: &mut Table<u32>, pass: u32, key: u128) -> bool {
+    let held = is_held(table, pass, key);
+    if held {
+        table.give(pass, 0, key);
+    }
+    held
+}
+
+// Notes that there is no row, where there is none.
+fn miss(table: &mut Table<u32>, pass: u32, key: u128) -> Result<bool, Memory> {
+    let _entries = table.history();
+    match table.look(0, key) {
+        Seen::No => {
+            table.note(entry(pass, key, Act::NotCached))?;
+            Ok(true)
+        }
+        _ => Ok(false),
+    }
+}
+
+#[test]
+fn two_values_of_which_one_fits(rt: HostRuntime) -> Result<(), Fail> {
+    let mut table = Table::new(rt.alloc(), 100)?;
+    assert!(rt; begin(rt.alloc(), &mut table, 0, A)?);
+    let first = Arc::new(rt.alloc(), 7)?;
+    assert_eq!(rt; end(&mut table, 0, A, 60, first), Some(1));
+    assert!(rt; begin(rt.alloc(), &mut table, 0, B)?);
+    let second = Arc::new(rt.alloc(), 8)?;
+    assert_eq!(rt; end(&mut table, 0, B, 60, second), Some(3));
+    assert!(rt; back(&mut table, 0, B));
+    assert!(rt; back(&mut table, 0, A));
+    let want = [
+        entry(0, A, Act::Start),
+        entry(
+            0,
+            A,
+            Act::Finish {
+                serial: 1,
+                size: 60,
+            },
+        ),
+        entry(0, B, Act::Start),
+        entry(
+            0,
+            B,
+            Act::Finish {
+                serial: 3,
+                size: 60,
+            },
+        ),
+        entry(0, B, Act::Give { serial: 3 }),
+        entry(0, B, Act::Evict { serial: 3 }),
+        entry(0, A, Act::Give { serial: 1 }),
+    ];
+    assert_eq!(rt; table.history().len(), want.len());
+    for (made, wanted) in table.history().iter().zip(want.iter()) {
+        assert!(rt; *made == *wanted);
+    }
+    assert_eq!(rt; table.look(0, B), Seen::No);
+    assert_eq!(rt; table.look(0, A), Seen::Live { serial: 1 });
+    let (serial, value) = hit(&mut table, 1, A)?.ok_or("no value")?;
+    assert_eq!(rt; serial, 1);
+    assert_eq!(rt; *value, 7);
+    Ok(())
+}
+
+#[test]
+fn nothing_is_kept_without_budget(rt: HostRuntime) -> Result<(), Fail> {
+    let mut table = Table::new(rt.alloc(), 0)?;
+    assert!(rt; miss(&mut table, 2, A)?);
+    assert!(rt; begin(rt.alloc(), &mut table, 0, A)?);
+    assert!(rt; drop_out(&mut table, 0, A));
+    assert!(rt; begin(rt.alloc(), &mut table, 0, A)?);
+    let value = Arc::new(rt.alloc(), 7)?;
+    assert_eq!(rt; end(&mut table, 0, A, 60, value), Some(4));
+    assert_eq!(rt; table.look(0, A), Seen::Live { serial: 4 });
+    assert!(rt; back(&mut table, 0, A));
+    assert_eq!(rt; table.look(0, A), Seen::No);
+    assert_eq!(rt; table.history().len(), 7);
+    Ok(())
+}
+
+// What the core's rows show of a key.
+fn shown(core: &Core, key: u128) -> Seen {
+    for row in core.rows() {
+        if row.key == key {
+            return match &row.state {
+                State::Running { owner } => Seen::Running { owner: *owner },
+                State::Live { serial, .. } => Seen::Live { serial: *serial },
+            };
+        }
+    }
+    Seen::No
+}
+
+// One call, chosen by a number.
+fn call(alloc: Global, table: &mut Table<u32>, turn: u32) -> Result<(), Memory> {
+    let pass = turn.wrapping_mul(7) / 3 % 3;
+    let key = u128::from(turn.wrapping_mul(5) / 2 % 7);
+    match table.look(0, key) {
+        Seen::No if turn % 13 == 0 => {
+            miss(table, pass, key)?;
+        }
+        Seen::No => {
+            begin(alloc, table, pass, key)?;
+        }
+        Seen::Running { owner } if turn % 11 == 0 => {
+            drop_out(table, owner, key);
+        }
+        Seen::Running { owner } => {
+            end(table, owner, key, turn % 5 * 20, Arc::new(alloc, turn)?);
+        }
+        Seen::Live { .. } => {
+            if !back(table, pass, key) {
+                hit(table, pass, key)?;
+            }
+        }
+    }
+    Ok(())
+}
+
+#[test]
+fn calls_agree_with_the_core(rt: HostRuntime) -> Result<(), Fail> {
+    let mut table = Table::new(rt.alloc(), 100)?;
+    let mut core = Core::new(rt.alloc(), 100);
+    let mut seen = 0;
+    let mut evicts: u32 = 0;
+    for turn in 0..400u32 {
+        call(rt.alloc(), &mut table, turn)?;
+        for made in table.history().get(seen..).ok_or("fewer entries")? {
+            core.apply(rt.alloc(), made)?;
+            if matches!(made.act, Act::Evict { .. }) {
+                evicts = evicts.saturating_add(1);
+            }
+        }
+        seen = table.history().len();
+        for key in 0..7u32 {
+            let key = u128::from(key);
+            assert_eq!(rt;
+                table.look(0, key),
+                shown(&core, key),
+                "of {key} after {turn}"
+            );
+        }
+    }
+    assert!(rt; evicts > 20);
+    Ok(())
+}
