@@ -1,10 +1,10 @@
 -- What the points of a rectangle are after each change of its sides.
 use Rattle.std.proofs.Common.{◌≡◌, ◌↔◌, ℤ, pos, ◌≤ℤ◌, ◌<ℤ◌, ◌+ℤ◌, ◌-ℤ◌, Bool, true, false, refl, arith}
-use Rattle.std.specs.Prelude.{int_le, ◌||◌, if◌then◌else◌}
+use Rattle.std.specs.Prelude.{int_le, int_lt, ◌||◌, ◌&&◌, if◌then◌else◌}
 use Rattle.std.specs.Int.{int_min, int_max}
 use Rattle.std.proofs.lemmas.Int.{ints, clamps, by_lt_z}
 use Rattle.geom_rect.specs.declared.rect.Rect.{Rect}
-use Rattle.geom_rect.specs.Rect.{Has, HasNear, IsNear, IsWithin, is_empty, meet_of, hull_of, shift_of, grow_of}
+use Rattle.geom_rect.specs.Rect.{Has, has, HasNear, IsNear, IsWithin, is_empty, meet_of, hull_of, shift_of, grow_of}
 
 -- the rectangle with these sides
 abbrev sides_of : ℤ → ℤ → ℤ → ℤ → Rect
@@ -37,6 +37,27 @@ no_point_from_true rect = by (int_le rect.right rect.left) refl (int_le rect.bot
     by true p t q e x y h = absurd (omega (arith, ints))
     by false p true q e x y h = absurd (omega (arith, ints))
     by false p false q e x y h = cc
+
+-- the test of a point
+pub has-true : (r : Rect) (x y : ℤ) → Has r x y → has r x y ≡ true
+has-true r x y h = by (int_le r.left x) refl (int_lt x r.right) refl (int_le r.top y) refl (int_lt y r.bottom) refl
+  where
+    by : (a : Bool) → int_le r.left x ≡ a → (b : Bool) → int_lt x r.right ≡ b → (c : Bool) → int_le r.top y ≡ c → (d : Bool) → int_lt y r.bottom ≡ d → (a && b && c && d) ≡ true
+    by true p true q true s true t = refl
+    by false p b q c s d t = absurd (omega (arith, ints, h.0))
+    by true p false q c s d t = absurd (omega (arith, ints, h.1))
+    by true p true q false s d t = absurd (omega (arith, ints, h.2))
+    by true p true q true s false t = absurd (omega (arith, ints, h.3))
+
+pub Has-from_true : (r : Rect) (x y : ℤ) → has r x y ≡ true → Has r x y
+Has-from_true r x y = by (int_le r.left x) refl (int_lt x r.right) refl (int_le r.top y) refl (int_lt y r.bottom) refl
+  where
+    by : (a : Bool) → int_le r.left x ≡ a → (b : Bool) → int_lt x r.right ≡ b → (c : Bool) → int_le r.top y ≡ c → (d : Bool) → int_lt y r.bottom ≡ d → (a && b && c && d) ≡ true → Has r x y
+    by true p true q true s true t e = (omega (arith, ints, p), omega (arith, ints, q), omega (arith, ints, s), omega (arith, ints, t))
+    by false p b q c s d t e = absurd cc
+    by true p false q c s d t e = absurd cc
+    by true p true q false s d t e = absurd cc
+    by true p true q true s false t e = absurd cc
 
 -- its near corner is in it
 pub near_corner : (rect : Rect) → HasRoom rect → Has rect rect.left rect.top
@@ -72,13 +93,13 @@ within-hull_right a b x y h =
     (omega (arith, ints, clamps, h.0), omega (arith, ints, clamps, h.1), omega (arith, ints, clamps, h.2), omega (arith, ints, clamps, h.3))
 
 -- one that holds each point of a rectangle with room has its sides outside of that one's
-record IsOutside (inner outer : Rect) : Type 0 where
+pub record IsOutside (inner outer : Rect) : Type 0 where
   pub left : outer.left ≤ℤ inner.left
   pub top : outer.top ≤ℤ inner.top
   pub right : inner.right ≤ℤ outer.right
   pub bottom : inner.bottom ≤ℤ outer.bottom
 
-outside_from_within : (inner outer : Rect) → HasRoom inner → IsWithin inner outer → IsOutside inner outer
+pub outside_from_within : (inner outer : Rect) → HasRoom inner → IsWithin inner outer → IsOutside inner outer
 outside_from_within inner outer room within =
     let near = within _ _ (near_corner inner room) in
     let far = within _ _ (far_corner inner room) in

@@ -1,11 +1,15 @@
 -- A rectangle is the set of its points. Right and bottom are exclusive.
-use Rattle.std.specs.Prelude.{ℕ, ◌*◌, ℤ, pos, negsuc, neg_ℤ, ◌≤ℤ◌, ◌<ℤ◌, ◌+ℤ◌, ◌-ℤ◌, Bool, ◌||◌, int_le, if◌then◌else◌}
+use Rattle.std.specs.Prelude.{ℕ, ◌*◌, ℤ, pos, negsuc, neg_ℤ, ◌≤ℤ◌, ◌<ℤ◌, ◌+ℤ◌, ◌-ℤ◌, Bool, ◌||◌, ◌&&◌, int_le, int_lt, if◌then◌else◌}
 use Rattle.std.specs.Int.{int_min, int_max}
 use Rattle.geom_rect.specs.declared.rect.Rect.{Rect}
 
 -- the point (x, y) is in the rectangle
 abbrev pub Has : Rect → ℤ → ℤ → Type 0
 Has rect x y = (rect.left ≤ℤ x) × (x <ℤ rect.right) × (rect.top ≤ℤ y) × (y <ℤ rect.bottom)
+
+-- whether the point is in the rectangle
+abbrev pub has : Rect → ℤ → ℤ → Bool
+has rect x y = int_le rect.left x && int_lt x rect.right && int_le rect.top y && int_lt y rect.bottom
 
 -- the sides leave no room for a point
 abbrev pub is_empty : Rect → Bool
@@ -23,6 +27,14 @@ positive_part (negsuc n) = 0
 -- how many whole numbers there are from the first, inclusive, to the second, exclusive
 abbrev pub count_between : ℤ → ℤ → ℕ
 count_between low high = positive_part (high -ℤ low)
+
+-- how many points a row of it has
+abbrev pub width_of : Rect → ℕ
+width_of rect = count_between rect.left rect.right
+
+-- the rectangle of this width and height at the origin
+abbrev pub frame_rect : ℕ → ℕ → Rect
+frame_rect width height = record { left = pos 0; top = pos 0; right = pos width; bottom = pos height }
 
 -- how many points are in it: its width times its height, and 0 for an empty one
 abbrev pub area_of : Rect → ℕ

@@ -10,8 +10,5 @@ mod status;
 pub use cause::{Failed, Memory, SinkError};
 pub use sink::{MemSink, NeverSink, Sink};
 pub use source::{MemSource, NeverSource, Source};
-pub use standard::{StdNotes, StdSink, StdSource};
+pub use standard::{Reading, StdNotes, StdSink, StdSource, Writing};
 pub use status::Status;
-
-#[cfg(test)]
-mod tests;
