@@ -1,4 +1,5 @@
-pub mod Rounded
 pub mod Places
 pub mod Rows
+pub mod Spans
+pub mod KeptLemmas
 pub mod Points

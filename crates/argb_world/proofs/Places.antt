@@ -1,11 +1,12 @@
 -- Where the pixels of a part stand: within it, and each at a place of its own.
-use Rattle.std.proofs.Common.{◌≡◌, ℕ, ◌+◌, ◌*◌, ◌<◌, ◌≤◌, ℤ, pos, negsuc, ◌-ℤ◌, ◌≤ℤ◌, ◌<ℤ◌, Bool, true, false, refl, ap, arith}
-use Rattle.std.specs.Prelude.{int_le, int_lt, unsigned_abs, ◌&&◌}
+use Rattle.std.proofs.Common.{◌≡◌, ℕ, ◌+◌, ◌*◌, ◌<◌, ◌≤◌, ℤ, pos, negsuc, ◌-ℤ◌, ◌≤ℤ◌, ◌<ℤ◌, Bool, true, false, refl, ap, ◌∙◌, arith}
+use Rattle.std.specs.Prelude.{unsigned_abs, int_le, ◌||◌}
 use Rattle.std.proofs.lemmas.Int.{ints}
 use Rattle.std.proofs.Math.Nat.{mul-le-mul_left}
 use Rattle.geom_rect.specs.declared.rect.Rect.{Rect}
-use Rattle.geom_rect.specs.Rect.{Has, positive_part, count_between, area_of}
-use Rattle.argb_world.specs.Picture.{has, HasRow, place_of, width_of, greatest_part}
+use Rattle.geom_rect.specs.Rect.{Has, IsWithin, is_empty, positive_part, count_between, width_of, area_of}
+use Rattle.geom_rect.proofs.Points.{room_from_false, outside_from_within}
+use Rattle.argb_world.specs.Picture.{HasRow, place_of, greatest_part}
 
 pub positive_part_is : (z : ℤ) → pos 0 ≤ℤ z → pos (positive_part z) ≡ z
 positive_part_is (pos n) h = refl
@@ -41,26 +42,6 @@ pub place_le : (part : Rect) (x y : ℤ) → HasRow part y → positive_part (x 
 place_le part x y h c =
     grid_le (width_of part) (count_between part.top part.bottom) _ _ (below part.top part.bottom y h.0 h.1) c
 
-pub has-true : (r : Rect) (x y : ℤ) → Has r x y → has r x y ≡ true
-has-true r x y h = by (int_le r.left x) refl (int_lt x r.right) refl (int_le r.top y) refl (int_lt y r.bottom) refl
-  where
-    by : (a : Bool) → int_le r.left x ≡ a → (b : Bool) → int_lt x r.right ≡ b → (c : Bool) → int_le r.top y ≡ c → (d : Bool) → int_lt y r.bottom ≡ d → (a && b && c && d) ≡ true
-    by true p true q true s true t = refl
-    by false p b q c s d t = absurd (omega (arith, ints, h.0))
-    by true p false q c s d t = absurd (omega (arith, ints, h.1))
-    by true p true q false s d t = absurd (omega (arith, ints, h.2))
-    by true p true q true s false t = absurd (omega (arith, ints, h.3))
-
-pub Has-from_true : (r : Rect) (x y : ℤ) → has r x y ≡ true → Has r x y
-Has-from_true r x y = by (int_le r.left x) refl (int_lt x r.right) refl (int_le r.top y) refl (int_lt y r.bottom) refl
-  where
-    by : (a : Bool) → int_le r.left x ≡ a → (b : Bool) → int_lt x r.right ≡ b → (c : Bool) → int_le r.top y ≡ c → (d : Bool) → int_lt y r.bottom ≡ d → (a && b && c && d) ≡ true → Has r x y
-    by true p true q true s true t e = (omega (arith, ints, p), omega (arith, ints, q), omega (arith, ints, s), omega (arith, ints, t))
-    by false p b q c s d t e = absurd cc
-    by true p false q c s d t e = absurd cc
-    by true p true q false s d t e = absurd cc
-    by true p true q true s false t e = absurd cc
-
 -- what a place is at the numbers that it is computed from
 pub place_bound : (part : Rect) (x y : ℤ) (row w column : ℕ) → HasRow part y → positive_part (x -ℤ part.left) ≤ width_of part → area_of part ≤ greatest_part
     → row ≡ positive_part (y -ℤ part.top) → w ≡ width_of part → column ≡ positive_part (x -ℤ part.left) → row * w + column ≤ greatest_part
@@ -68,3 +49,41 @@ place_bound part x y row w column h c bound r e k =
     let within = place_le part x y h c in
     let same : row * w + column ≡ place_of part x y = cc in
     omega (arith, within, same)
+
+-- the column of a point is within the row
+pub along_within : (part : Rect) (x y : ℤ) → Has part x y → positive_part (x -ℤ part.left) ≤ width_of part
+along_within part x y h = omega (arith, below part.left part.right x h.0 h.1)
+
+-- a side that leaves no room
+none_between : (low high : ℤ) → high ≤ℤ low → count_between low high ≡ 0
+none_between low high h = by (high -ℤ low) refl
+  where
+    by : (d : ℤ) → high -ℤ low ≡ d → positive_part (high -ℤ low) ≡ 0
+    by (pos n) e = let none : n ≡ 0 = omega (arith, ints, e) in ap positive_part e ∙ none
+    by (negsuc n) e = ap positive_part e
+
+fewer_between : (low high a b : ℤ) → a ≤ℤ low → low ≤ℤ high → high ≤ℤ b → count_between low high ≤ count_between a b
+fewer_between low high a b under room over =
+    omega (arith, ints, positive_part_is (high -ℤ low) (omega (arith, ints)), positive_part_is (b -ℤ a) (omega (arith, ints)))
+
+-- a rectangle inside another one has no more points
+pub area_within : (inner outer : Rect) → IsWithin inner outer → area_of inner ≤ area_of outer
+area_within inner outer within = by (is_empty inner) refl
+  where
+    by : (b : Bool) → is_empty inner ≡ b → area_of inner ≤ area_of outer
+    by false e =
+        let room = room_from_false inner e in
+        let sides = outside_from_within inner outer room within in
+        let across = fewer_between inner.left inner.right outer.left outer.right sides.left (omega (arith, ints, room.across)) sides.right in
+        let down = fewer_between inner.top inner.bottom outer.top outer.bottom sides.top (omega (arith, ints, room.down)) sides.bottom in
+        omega (arith, mul-le-mul_left (count_between inner.top inner.bottom) across, mul-le-mul_left (count_between outer.left outer.right) down)
+    by true e = sides (int_le inner.right inner.left) refl (int_le inner.bottom inner.top) refl e
+      where
+        sides : (s : Bool) → int_le inner.right inner.left ≡ s → (t : Bool) → int_le inner.bottom inner.top ≡ t → (s || t) ≡ true → area_of inner ≤ area_of outer
+        sides true p t q r =
+            let none = none_between inner.left inner.right (omega (arith, ints, p)) in
+            omega (arith, ap (λ n. n * count_between inner.top inner.bottom) none)
+        sides false p true q r =
+            let none = none_between inner.top inner.bottom (omega (arith, ints, q)) in
+            omega (arith, ap (λ n. count_between inner.left inner.right * n) none)
+        sides false p false q r = cc

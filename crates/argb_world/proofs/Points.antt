@@ -3,9 +3,9 @@ use Rattle.std.proofs.Common.{◌≡◌, ℕ, zero, suc, ◌+◌, ◌*◌, ◌/�
 use Rattle.std.proofs.lemmas.List.{ext_get_or}
 use Rattle.std.proofs.Math.Nat.{div-lt_iff_lt-mul, mod-lt, mod-add-div}
 use Rattle.geom_rect.specs.declared.rect.Rect.{Rect}
-use Rattle.geom_rect.specs.Rect.{Has, count_between, area_of}
-use Rattle.argb_world.specs.Pixel.{Argb, clear}
-use Rattle.argb_world.specs.Picture.{Picture, at, place_of, width_of}
+use Rattle.geom_rect.specs.Rect.{Has, count_between, area_of, width_of}
+use Rattle.argb_pixel.specs.Pixel.{Argb, clear}
+use Rattle.argb_world.specs.Picture.{Picture, at, place_of}
 use Rattle.argb_world.specs.Laws.{PointsTellThePicture}
 use Rattle.argb_world.proofs.Rows.{picture, at_inside, column_above, column_below, column_is}
 

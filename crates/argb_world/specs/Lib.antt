@@ -1,4 +1,3 @@
-pub mod Depth
-pub mod Pixel
+pub mod Kept
 pub mod Picture
 pub mod Laws

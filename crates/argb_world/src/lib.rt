@@ -2,11 +2,7 @@
 #![tactic(auto)]
 
 pub mod laws;
-mod pixel;
+mod pixels;
 mod world;
 
-pub use pixel::{Pixel, Transparent};
 pub use world::World;
-
-#[cfg(test)]
-mod tests;

@@ -1,13 +1,14 @@
-ghost use Rattle.std.specs.Prelude.{◌≡◌, ◌≤◌, ℤ, IfOk, length, ◌+◌, ◌*◌, ◌<◌, ◌^◌};
-ghost use Rattle.std.specs.Prelude.{◌≤ℤ◌, ◌-ℤ◌};
+ghost use Rattle.std.specs.Prelude.{◌≡◌, ◌≤◌, ℕ, ℤ, pos, IfOk, IfSome, length, ◌+◌, ◌-◌, ◌*◌, ◌<◌, ◌+ℤ◌, ◌↔◌, IsTrue};
+ghost use Rattle.std.specs.Prelude.{◌≤ℤ◌, ◌<ℤ◌, ◌-ℤ◌};
 ghost use Rattle.std.specs.List.{between};
 ghost use borrow.Rule.Slice.PartMut.{put_mid};
-ghost use Rattle.geom_rect.specs.Rect.{Has, IsWithin, area_of, count_between, positive_part};
-ghost use Rattle.argb_world.specs.Picture.{place_of, width_of, HasRow, greatest_part};
-ghost use Rattle.argb_world.specs.Depth.{IsDepth};
-ghost use Rattle.argb_world.specs.Pixel.{clear};
+ghost use Rattle.geom_rect.specs.Rect.{Has, IsWithin, area_of, positive_part, count_between, width_of};
+ghost use Rattle.argb_world.specs.Picture.{place_of, HasRow, HasSpan, IsReach, greatest_part};
+ghost use Rattle.argb_pixel.specs.Depth.{IsDepth};
+ghost use Rattle.argb_pixel.specs.Pixel.{clear};
 
-use crate::{Pixel, Transparent};
+use crate::pixels::{Pixels, fill_row};
+use argb_pixel::{Pixel, Transparent};
 use geom_rect::Rect;
 use host_io::Memory;
 use std::alloc::Global;
@@ -20,21 +21,30 @@ use std::marker::Model;
 pub struct World<const MAX: u32> {
     extent: Rect,
     part: Rect,
-    pixels: Vec<Pixel<MAX>>,
+    pixels: Pixels<MAX>,
 }
 
 impl<const MAX: u32> Model for World<MAX> {
-    ghost use Rattle.argb_world.specs.Picture.{Picture, IsPicture};
+    ghost use Rattle.argb_world.specs.Picture.{Picture, IsPictureOf};
 
     ghost Value = { Picture };
 
-    ghost view = { λ w. record { extent = w.extent; part = w.part; pixels = w.pixels.items } };
+    ghost view = { λ w. record { extent = w.extent; part = w.part; pixels = w.pixels } };
 
-    ghost invariant = { λ w. IsPicture record { extent = w.extent; part = w.part; pixels = w.pixels.items } };
+    ghost invariant = { λ w. IsPictureOf MAX record { extent = w.extent; part = w.part; pixels = w.pixels } };
 }
 
 impl<const MAX: u32> World<MAX> {
-    ghost use Rattle.argb_world.specs.Picture.{at, row_of, SameFrame, StaysBeside, StaysOffRow};
+    ghost use Rattle.argb_world.specs.Picture.{
+      at,
+      row_of,
+      span_of,
+      SameExtentAndPart,
+      StaysBeside,
+      StaysOffRow,
+      StaysOffSpan,
+      AgreesOn,
+    };
 
     /// A transparent picture. It answers `Memory` where its pixels find no room.
     pub fn blank(alloc: Global, extent: Rect, part: Rect) -> Result<World<MAX>, Memory>
@@ -45,12 +55,42 @@ impl<const MAX: u32> World<MAX> {
         ensures part { IfOk result (λ w. w.part ≡ part) }
         ensures transparent { IfOk result (λ w. (x y : ℤ) → at w x y ≡ clear) }
     {
-        let pixels = vec![in alloc; Pixel::CLEAR; part.area() as usize]?;
+        let pixels = Pixels::new(alloc, part.area() as usize, Pixel::CLEAR)?;
         Ok(World {
             extent,
             part,
             pixels,
         })
+    }
+
+    /// A picture of one colour over its whole extent. Its pixels have room, but as long as none is set they are not
+    /// written out. It answers `Memory` where they find no room.
+    pub fn solid(alloc: Global, extent: Rect, colour: Pixel<MAX>) -> Result<World<MAX>, Memory>
+        requires depth { IsDepth MAX }
+        requires bound { area_of extent ≤ greatest_part }
+        ensures extent { IfOk result (λ w. w.extent ≡ extent) }
+        ensures part { IfOk result (λ w. w.part ≡ extent) }
+        ensures colour { IfOk result (λ w. (x y : ℤ) → Has extent x y → at w x y ≡ colour.entry) }
+    {
+        let pixels = Pixels::new(alloc, extent.area() as usize, colour)?;
+        Ok(World {
+            extent,
+            part: extent,
+            pixels,
+        })
+    }
+
+    /// The same extent, and of the pixels those of a part inside the old one. It answers `Memory` where they find no
+    /// room.
+    pub fn crop(&self, alloc: Global, part: Rect) -> Result<World<MAX>, Memory>
+        requires { IsWithin part self.now.part }
+        ensures extent { IfOk result (λ w. w.extent ≡ self.now.extent) }
+        ensures part { IfOk result (λ w. w.part ≡ part) }
+        ensures copied { IfOk result (λ w. AgreesOn part self.now w) }
+    {
+        let mut world = World::blank(alloc, self.extent, part)?;
+        world.copy_from(self);
+        Ok(world)
     }
 
     /// The rectangle that it stands for.
@@ -65,8 +105,16 @@ impl<const MAX: u32> World<MAX> {
         ensures value { result ≡ self.now.part }
         ensures inside { IsWithin result self.now.extent }
         ensures bound { area_of result ≤ greatest_part }
+        ensures depth { IsDepth MAX }
     {
         self.part
+    }
+
+    /// The one colour that it has at each point of its part, where it is kept as one.
+    pub fn colour(&self) -> Option<Pixel<MAX>>
+        ensures { IfSome result (λ colour. (x y : ℤ) → Has self.now.part x y → at self.now x y ≡ colour) }
+    {
+        self.pixels.colour()
     }
 
     /// The pixel at a point, transparent outside the part.
@@ -74,7 +122,7 @@ impl<const MAX: u32> World<MAX> {
         ensures { result ≡ at self.now x y }
     {
         if self.part.has(x, y) {
-            self.pixels[place(&self.part, x, y)]
+            self.pixels.get(place(&self.part, x, y))
         } else {
             Pixel::CLEAR
         }
@@ -83,12 +131,12 @@ impl<const MAX: u32> World<MAX> {
     /// Sets the pixel at a point of the part. All other points stay.
     pub fn set(&mut self, x: i32, y: i32, p: Pixel<MAX>)
         requires { Has self.old.part x y }
-        ensures frame { SameFrame self.old self.new }
+        ensures frame { SameExtentAndPart self.old self.new }
         ensures set { at self.new x y ≡ p.entry }
         ensures others { StaysBeside x y self.old self.new }
     {
         let at = place(&self.part, x, y);
-        self.pixels[at] = p;
+        self.pixels.set(at, p);
     }
 
     /// The part's pixels at the height `y`, from the left.
@@ -98,19 +146,84 @@ impl<const MAX: u32> World<MAX> {
         ensures { into.new ≡ row_of self.now y }
     {
         let start = place(&self.part, self.part.left, y);
-        read_from(&self.pixels, start, into);
+        self.pixels.read(start, into);
     }
 
     /// Sets the part's pixels at the height `y`, from the left. All other heights stay.
     pub fn set_row(&mut self, y: i32, from: &[Pixel<MAX>])
         requires height { HasRow self.old.part y }
         requires width { length from.now ≡ width_of self.old.part }
-        ensures frame { SameFrame self.old self.new }
+        ensures frame { SameExtentAndPart self.old self.new }
         ensures row { row_of self.new y ≡ from.now }
         ensures others { StaysOffRow y self.old self.new }
     {
         let start = place(&self.part, self.part.left, y);
-        write_from(&mut self.pixels, start, from);
+        self.pixels.write(start, from);
+    }
+
+    /// Which of so many points from `(x, y)` to the right are in the part: from the first number on, to before the
+    /// second. `x` is within -8,589,934,592..=8,589,934,592.
+    pub fn covered(&self, x: i64, y: i64, count: usize) -> (usize, usize)
+        requires { IsReach x }
+        ensures order { result.0 ≤ result.1 }
+        ensures within { result.1 ≤ count }
+        ensures inside { (k : ℕ) → k < count → (Has self.now.part (x +ℤ pos k) y ↔ ((result.0 ≤ k) × (k < result.1))) }
+    {
+        if has_row(&self.part, y) {
+            overlap(self.part.left, self.part.right, x, count)
+        } else {
+            (0, 0)
+        }
+    }
+
+    /// The pixels of a row of points, from `(x, y)` to the right. They are transparent outside the part. `x` is within
+    /// -8,589,934,592..=8,589,934,592.
+    pub fn read_span(&self, x: i64, y: i64, into: &mut [Pixel<MAX>])
+        requires { IsReach x }
+        ensures { into.new ≡ span_of self.now x y (length into.old) }
+    {
+        let (start, end) = self.covered(x, y, into.len());
+        fill_row(Pixel::CLEAR, into);
+        if start < end {
+            let from = place_along(&self.part, x, y, start);
+            read_middle(&self.pixels, from, into, start, end);
+        }
+    }
+
+    /// Sets the pixels of a row of points, from `(x, y)` to the right. All are in the part, and all other points stay.
+    pub fn set_span(&mut self, x: i32, y: i32, from: &[Pixel<MAX>])
+        requires { HasSpan self.old.part x y (length from.now) }
+        ensures frame { SameExtentAndPart self.old self.new }
+        ensures span { span_of self.new x y (length from.now) ≡ from.now }
+        ensures others { StaysOffSpan x y (length from.now) self.old self.new }
+    {
+        let start = place(&self.part, x, y);
+        self.pixels.write(start, from);
+    }
+
+    /// Each point of its part gets what the other picture has there.
+    pub fn copy_from(&mut self, from: &World<MAX>)
+        ensures frame { SameExtentAndPart self.old self.new }
+        ensures copied { AgreesOn self.old.part from.now self.new }
+    {
+        for k in 0..height(&self.part) {
+            self.copy_row(from, k);
+        }
+    }
+
+    // A row of the part, `k` below its top, gets what the other picture has there.
+    fn copy_row(&mut self, from: &World<MAX>, k: u32)
+        requires { k < count_between self.old.part.top self.old.part.bottom }
+        ensures frame { SameExtentAndPart self.old self.new }
+        ensures row { row_of self.new (self.old.part.top +ℤ pos k)
+            ≡ span_of from.now self.old.part.left (self.old.part.top +ℤ pos k) (width_of self.old.part) }
+        ensures others { StaysOffRow (self.old.part.top +ℤ pos k) self.old self.new }
+    {
+        let start = row_start(&self.part, k);
+        let count = width(&self.part);
+        let y = row_height(&self.part, k);
+        self.pixels
+            .copy(start, count, from, self.part.left as i64, y);
     }
 }
 
@@ -133,6 +246,97 @@ fn width(part: &Rect) -> usize
     }
 }
 
+// How many rows it has.
+fn height(part: &Rect) -> u32
+    ensures { result ≡ count_between part.now.top part.now.bottom }
+{
+    if part.top < part.bottom {
+        (part.bottom as i64 - part.top as i64) as u32
+    } else {
+        0
+    }
+}
+
+// The height of a row, `k` below the top.
+fn row_height(part: &Rect, k: u32) -> i64
+    ensures { result ≡ part.now.top +ℤ pos k }
+{
+    part.top as i64 + k as i64
+}
+
+// Where the first pixel of a row stands, `k` below the top.
+fn row_start(part: &Rect, k: u32) -> usize
+    requires there { k < count_between part.now.top part.now.bottom }
+    requires bound { area_of part.now ≤ greatest_part }
+    ensures { result ≡ k * width_of part.now }
+{
+    k as usize * width(part)
+}
+
+// Whether the rectangle has points at this height, if it has columns.
+fn has_row(part: &Rect, y: i64) -> bool
+    ensures { IsTrue result ↔ HasRow part.now y }
+{
+    part.top as i64 <= y && y < part.bottom as i64
+}
+
+// How far a number is below another, 0 where it is not.
+fn below(x: i64, high: i32) -> usize
+    requires { IsReach x }
+    ensures { result ≡ positive_part (high -ℤ x) }
+{
+    if x < high as i64 {
+        (high as i64 - x) as usize
+    } else {
+        0
+    }
+}
+
+// How far a number is above another, 0 where it is not.
+fn above(low: i32, x: i64) -> usize
+    requires { IsReach x }
+    ensures { result ≡ positive_part (x -ℤ low) }
+{
+    if low as i64 <= x {
+        (x - low as i64) as usize
+    } else {
+        0
+    }
+}
+
+// Which of so many numbers from `x` on are from `low`, inclusive, to `high`, exclusive.
+fn overlap(low: i32, high: i32, x: i64, count: usize) -> (usize, usize)
+    requires { IsReach x }
+    ensures order { result.0 ≤ result.1 }
+    ensures within { result.1 ≤ count }
+    ensures inside { (k : ℕ) → k < count
+        → (((low ≤ℤ (x +ℤ pos k)) × ((x +ℤ pos k) <ℤ high)) ↔ ((result.0 ≤ k) × (k < result.1))) }
+{
+    let start = below(x, low).min(count);
+    let end = below(x, high).min(count);
+    (start, end.max(start))
+}
+
+// How far the point that is `k` to the right of the column `x` is from the left side.
+fn column(left: i32, x: i64, k: usize) -> usize
+    requires reach { IsReach x }
+    requires low { left ≤ℤ (x +ℤ pos k) }
+    requires high { (x +ℤ pos k) <ℤ pos 2147483648 }
+    ensures { result ≡ positive_part ((x +ℤ pos k) -ℤ left) }
+{
+    above(left, x) + k - below(x, left)
+}
+
+// Where the pixel of the point stands that is `k` to the right of `(x, y)`.
+fn place_along(part: &Rect, x: i64, y: i64, k: usize) -> usize
+    requires reach { IsReach x }
+    requires there { Has part.now (x +ℤ pos k) y }
+    requires bound { area_of part.now ≤ greatest_part }
+    ensures { result ≡ place_of part.now (x +ℤ pos k) y }
+{
+    above(part.top, y) * width(part) + column(part.left, x, k)
+}
+
 // Where the pixel of a point stands: the end of a row has a place too.
 fn place(part: &Rect, x: i32, y: i32) -> usize
     requires height { HasRow part.now y }
@@ -144,18 +348,18 @@ fn place(part: &Rect, x: i32, y: i32) -> usize
     offset(part.top, y) * width(part) + offset(part.left, x)
 }
 
-// Copies the pixels from a place on.
-fn read_from<const MAX: u32>(pixels: &[Pixel<MAX>], start: usize, into: &mut [Pixel<MAX>])
-    requires { start + length into.old ≤ length pixels.now }
-    ensures { into.new ≡ between start (start + length into.old) pixels.now }
+// Copies pixels from a place on into the middle of a row.
+fn read_middle<const MAX: u32>(
+    pixels: &Pixels<MAX>,
+    from: usize,
+    into: &mut [Pixel<MAX>],
+    start: usize,
+    end: usize,
+)
+    requires order { start ≤ end }
+    requires within { end ≤ length into.old }
+    requires there { from + (end - start) ≤ length pixels.now }
+    ensures { into.new ≡ put_mid start (end - start) into.old (between from (from + (end - start)) pixels.now) }
 {
-    into.copy_from_slice(&pixels[start..start + into.len()]);
-}
-
-// Writes over the pixels from a place on.
-fn write_from<const MAX: u32>(pixels: &mut [Pixel<MAX>], start: usize, from: &[Pixel<MAX>])
-    requires { start + length from.now ≤ length pixels.old }
-    ensures { pixels.new ≡ put_mid start (length from.now) pixels.old from.now }
-{
-    pixels[start..start + from.len()].copy_from_slice(from);
+    pixels.read(from, &mut into[start..end]);
 }

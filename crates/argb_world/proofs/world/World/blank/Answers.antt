@@ -4,5 +4,4 @@ use Rattle.argb_world.proofs.world.World.blank.Goals as goal
 
 pub returns-clause-transparent : goal.returns-clause-transparent
 returns-clause-transparent g c = λ x y.
-    let all = c.in_ok-pixels.ensures.items_if_clones_equal (λ _ e. e) in
-    blank_at c.args.extent c.args.part c.in_ok-pixels.pixels.items x y (all ∙ ap₂ replicate c.area.ensures c.CLEAR.ensures)
+    blank_at c.args.extent c.args.part c.in_ok-pixels.pixels x y (c.in_ok-pixels.ensures ∙ ap₂ replicate c.area.ensures c.CLEAR.ensures)

@@ -38,3 +38,7 @@ scale_of p opacity = each_channel (λ c. rounded (c * opacity) 10000) p
 -- how bright it is, in 256 parts of 77 red, 150 green and 29 blue
 abbrev pub luma_of : Argb → ℕ
 luma_of p = (77 * p.r + 150 * p.g + 29 * p.b + 128) / 256
+
+-- in another depth: the same share of its greatest value
+abbrev pub depth_of : ℕ → ℕ → Argb → Argb
+depth_of most other p = each_channel (λ c. rounded (c * other) most) p

@@ -1,12 +1,13 @@
 ghost use Rattle.std.specs.Prelude.{◌≡◌, ◌≤◌, ◌<◌, ◌*◌, MatchOption};
-ghost use Rattle.argb_world.specs.Depth.{IsDepth};
-ghost use Rattle.argb_world.specs.Pixel.{IsPremultiplied, clear, mul_of, scale_of, luma_of, rounded};
+ghost use Rattle.argb_pixel.specs.Depth.{IsDepth};
+ghost use Rattle.argb_pixel.specs.Pixel.{IsPremultiplied, clear, mul_of, scale_of, luma_of, depth_of, rounded};
 
 use std::marker::Model;
 
 /// A premultiplied pixel: alpha and three colours, each colour at most alpha, and alpha at most `MAX`,
-/// which is 255 or 32768. Channels and depths are those of the After Effects C++ SDK Guide, the
-/// arithmetic is this project's own.
+/// which is 255 (8 bit) or 32768 (16 bit). The order of the channels and the two depths with their greatest values are
+/// those of the After Effects C++ SDK Guide. That pixels are premultiplied, and all arithmetic with its rounding
+/// (`mul`, `scale`, `luma`, `to_depth`), is this project's own.
 #[derive(Clone, Copy, Debug, PartialEq, Eq)]
 pub struct Pixel<const MAX: u32> {
     a: u16,
@@ -17,7 +18,7 @@ pub struct Pixel<const MAX: u32> {
 
 impl<const MAX: u32> Model for Pixel<MAX> {
     ghost use Rattle.std.specs.Prelude.{◌<◌, ◌^◌};
-    ghost use Rattle.argb_world.specs.Pixel.{Argb, IsPremultiplied};
+    ghost use Rattle.argb_pixel.specs.Pixel.{Argb, IsPremultiplied};
 
     ghost Value = { Argb };
 
@@ -37,6 +38,18 @@ fn rounded_part(c: u16, m: u32, whole: u32) -> u16
     ensures { result ≡ rounded (c * m) whole }
 {
     ((c as u32 * m + whole / 2) / whole) as u16
+}
+
+// A channel of a depth in another one, to the nearest number.
+fn rounded_share(c: u16, other: u32, most: u32) -> u16
+    requires some { 0 < most }
+    requires from { most ≤ 32768 }
+    requires to { other ≤ 32768 }
+    requires channel { c ≤ most }
+    ensures value { result ≡ rounded (c * other) most }
+    ensures within { result ≤ other }
+{
+    ((c as u32 * other + most / 2) / most) as u16
 }
 
 /// What has a transparent value. The constant stands in a trait, where contracts see its value.
@@ -147,6 +160,21 @@ impl<const MAX: u32> Pixel<MAX> {
             r: rounded_part(self.r, opacity, 10000),
             g: rounded_part(self.g, opacity, 10000),
             b: rounded_part(self.b, opacity, 10000),
+        }
+    }
+
+    /// The pixel in another depth, each channel rounded to the nearest: `floor((c*32768 + 127) / 255)` from 8 bit to 16,
+    /// `floor((c*255 + 16384) / 32768)` from 16 bit to 8.
+    pub fn to_depth<const N: u32>(self) -> Pixel<N>
+        requires from { IsDepth MAX }
+        requires to { IsDepth N }
+        ensures { result ≡ depth_of MAX N self.entry }
+    {
+        Pixel {
+            a: rounded_share(self.a, N, MAX),
+            r: rounded_share(self.r, N, MAX),
+            g: rounded_share(self.g, N, MAX),
+            b: rounded_share(self.b, N, MAX),
         }
     }
 
