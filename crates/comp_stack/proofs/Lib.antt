@@ -1,0 +1,5 @@
+pub mod Sources
+pub mod Nothing
+pub mod Laying
+pub mod Grounds
+pub mod Premultiplied

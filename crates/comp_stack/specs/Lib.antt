@@ -1,0 +1,4 @@
+pub mod Stack
+pub mod Layers
+pub mod Spans
+pub mod Laws

@@ -1,0 +1,3 @@
+pub mod Mattes
+pub mod Names
+pub mod Laws

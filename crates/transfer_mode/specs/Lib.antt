@@ -1,0 +1,4 @@
+pub mod Both
+pub mod Transfer
+pub mod Names
+pub mod Laws
