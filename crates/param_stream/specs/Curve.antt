@@ -1,8 +1,8 @@
 -- What a stream is to its callers, and its value at a tick.
-use Rattle.std.specs.Prelude.{ℕ, ◌+◌, ◌^◌, ◌<◌, ◌≤◌, List, [], ◌∷◌, length, slice_index_or, ℤ, pos, neg_ℤ, ◌+ℤ◌, ◌-ℤ◌, ◌*ℤ◌, ◌≤ℤ◌, ◌<ℤ◌, int_lt, if◌then◌else◌}
+use Rattle.std.specs.Prelude.{ℕ, ◌+◌, ◌^◌, ◌<◌, ◌≤◌, List, [], ◌∷◌, length, slice_index_or, ℤ, pos, neg_ℤ, ◌+ℤ◌, ◌-ℤ◌, ◌*ℤ◌, ◌≤ℤ◌, ◌<ℤ◌, int_lt, Bool, true, ◌&&◌, if◌then◌else◌}
 use Rattle.std.specs.Int.{◌∣◌}
 use Rattle.std.specs.List.{All}
-use Rattle.rational_time.specs.Times.{tick_of, floor_of, IsNear}
+use Rattle.rational_time.specs.Times.{tick_of, floor_of, comes_before, IsNear}
 use Rattle.param_stream.specs.declared.key.Ease.{Ease}
 use Rattle.param_stream.specs.declared.key.Ease.TheVariants.{Hold, Linear, Smooth}
 use Rattle.param_stream.specs.declared.key.Keyframe.{Keyframe}
@@ -57,6 +57,16 @@ tick_at base keys i = key_tick base (key_at keys i)
 -- each keyframe stands above the one before
 abbrev pub IsRising : ℕ → List Keyframe → Type 0
 IsRising base keys = (i : ℕ) → i + 1 < length keys → tick_at base keys i <ℤ tick_at base keys (i + 1)
+
+-- the times of the keyframes after this one rise from its own
+abbrev pub rises_from : Keyframe → List Keyframe → Bool
+rises_from key [] = true
+rises_from key (next ∷ rest) = comes_before key.time next.time && rises_from next rest
+
+-- whether each keyframe's time is above that of the one before
+abbrev pub rises : List Keyframe → Bool
+rises [] = true
+rises (key ∷ rest) = rises_from key rest
 
 -- a keyframe's time is a whole number of ticks
 pub record IsTimed (base : ℕ) (key : Keyframe) : Type 0 where

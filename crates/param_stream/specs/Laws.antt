@@ -1,7 +1,7 @@
 -- Laws of a stream's value, over the definitions alone.
-use Rattle.std.specs.Prelude.{◌≡◌, ℕ, ◌+◌, ◌<◌, List, [], ◌∷◌, length, ℤ, pos, negsuc, ◌≤ℤ◌, ◌<ℤ◌}
+use Rattle.std.specs.Prelude.{◌≡◌, ℕ, ◌+◌, ◌<◌, ◌≤◌, ◌↔◌, IsTrue, List, [], ◌∷◌, length, ℤ, pos, negsuc, ◌≤ℤ◌, ◌<ℤ◌}
 use Rattle.std.specs.List.{All}
-use Rattle.param_stream.specs.Curve.{value_at, between, key_at, key_tick, tick_at, IsRising, IsBetween}
+use Rattle.param_stream.specs.Curve.{value_at, between, key_at, key_tick, tick_at, IsRising, IsBetween, IsTimed, rises}
 use Rattle.param_stream.specs.declared.key.Ease.{Ease}
 use Rattle.param_stream.specs.declared.key.Ease.TheVariants.{Hold, Linear, Smooth}
 use Rattle.param_stream.specs.declared.key.Keyframe.{Keyframe}
@@ -58,6 +58,10 @@ ValueWithin =
     → 0 < length keys
     → All (λ key. IsBetween low high key.value) keys
     → IsBetween low high (value_at base keys t)
+
+-- keyframes rise in ticks of any base exactly where their times do
+abbrev pub RisesInTicks : Type 0
+RisesInTicks = (base : ℕ) (keys : List Keyframe) → 1 ≤ base → All (IsTimed base) keys → (IsTrue (rises keys) ↔ IsRising base keys)
 
 -- a keyframe at a whole number of ticks of one second
 abbrev key : ℤ → ℤ → Ease → Keyframe

@@ -1,4 +1,7 @@
-use rational_time::Time;
+ghost use Rattle.std.specs.Prelude.{◌≡◌};
+ghost use Rattle.param_stream.specs.Curve.{rises};
+
+use rational_time::{Time, comes_before};
 
 /// How a value goes on from a keyframe to the next one. This project's own: the three are `hold`,
 /// `linear` and `ease` in a project.
@@ -18,4 +21,16 @@ pub struct Keyframe {
     pub time: Time,
     pub value: i64,
     pub kind: Ease,
+}
+
+/// Whether each keyframe's time is above that of the one before.
+pub fn rises(keys: &[Keyframe]) -> bool
+    ensures { result ≡ rises keys.now }
+{
+    for index in 1..keys.len() {
+        if !comes_before(keys[index - 1].time, keys[index].time) {
+            return false;
+        }
+    }
+    true
 }

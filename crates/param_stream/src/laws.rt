@@ -1,6 +1,6 @@
 //! Laws of a stream's value: each function's contract is one, and calling it does nothing.
 
-ghost use Rattle.param_stream.specs.Laws.{ValueAtKey, ValueBefore, ValueAfter, ValueAtSplit, ValueBetween, ValueWithin, WorkedValues};
+ghost use Rattle.param_stream.specs.Laws.{ValueAtKey, ValueBefore, ValueAfter, ValueAtSplit, ValueBetween, ValueWithin, RisesInTicks, WorkedValues};
 
 /// At a keyframe's tick the value is that keyframe's.
 pub fn value_at_key()
@@ -30,6 +30,11 @@ pub fn value_between_neighbours()
 /// Bounds that hold each keyframe's value hold the value at every tick.
 pub fn value_within_bounds()
     ensures { ValueWithin }
+{}
+
+/// Keyframes rise in ticks of any base exactly where their times do.
+pub fn rises_in_ticks()
+    ensures { RisesInTicks }
 {}
 
 /// Values worked by hand.

@@ -1,3 +1,4 @@
 pub mod Bases
 pub mod Measures
+pub mod Multiples
 pub mod Numbers

@@ -16,7 +16,7 @@ wide_product v k a b e f small few =
     let fits = fits_signed_mul w64 v (pos k) (2 ^ 31) (2 ^ 32 - 1) small (omega (arith, few)) (lit< tt) in
     rw (e, f, to_z-of_z w64 v fits_v, to_z-of_z w64 (pos k) fits_k) (to_z-of_z w64 (v *ℤ pos k) fits)
 
-negated-product : (n k : ℕ) → neg_ℤ (pos n) *ℤ pos k ≡ neg_ℤ (pos (n * k))
+pub negated-product : (n k : ℕ) → neg_ℤ (pos n) *ℤ pos k ≡ neg_ℤ (pos (n * k))
 negated-product zero k = rw zero-mul refl
 negated-product (suc n) k = refl
 

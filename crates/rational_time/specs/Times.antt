@@ -1,16 +1,25 @@
 -- Times are whole numbers of ticks of one common base.
-use Rattle.std.specs.Prelude.{◌≡◌, ℕ, ◌+◌, ◌*◌, ◌/◌, ◌<◌, ◌≤◌, List, take, slice_get, ℤ, pos, neg_ℤ, ◌*ℤ◌, ◌+ℤ◌, ◌≤ℤ◌, ◌<ℤ◌, unsigned_abs}
+use Rattle.std.specs.Prelude.{◌≡◌, ℕ, zero, suc, ◌%◌, [], ◌∷◌, Bool, nat_le, int_lt, ◌+◌, ◌*◌, ◌/◌, ◌<◌, ◌≤◌, List, take, slice_get, ℤ, pos, neg_ℤ, ◌*ℤ◌, ◌+ℤ◌, ◌≤ℤ◌, ◌<ℤ◌, unsigned_abs}
 use Rattle.std.specs.Prelude.{Some}
 use Rattle.std.specs.Int.{◌∣◌, int_min, int_max, int_div_euclid}
 use Rattle.std.specs.List.{All}
 use Rattle.std.specs.List.Sorted.{IsPermutation}
 use Rattle.rational_time.specs.declared.time.Time.{Time}
+use Rattle.rational_time.specs.declared.time.TheConstants.{MOST_SECONDS, GREATEST_BASE}
 use Rattle.rational_time.specs.declared.base.TimeError.{TimeError}
 use Rattle.rational_time.specs.declared.base.TimeError.TheVariants.{ZeroScale, TimeTooFar, BaseTooLarge}
 
 -- at most 36,000 seconds from zero
 abbrev pub IsNear : Time → Type 0
-IsNear time = unsigned_abs time.value ≤ 36000 * time.scale
+IsNear time = unsigned_abs time.value ≤ MOST_SECONDS * time.scale
+
+-- whether it is
+abbrev pub is_near : Time → Bool
+is_near time = nat_le (unsigned_abs time.value) (MOST_SECONDS * time.scale)
+
+-- the first time is less than the second, by cross products
+abbrev pub comes_before : Time → Time → Bool
+comes_before a b = int_lt (a.value *ℤ pos b.scale) (b.value *ℤ pos a.scale)
 
 -- each scale divides the number
 abbrev pub IsMultipleOfScales : List Time → ℕ → Type 0
@@ -21,13 +30,35 @@ pub record IsLeastCommonMultiple (times : List Time) (n : ℕ) : Type 0 where
   pub common : IsMultipleOfScales times n
   pub least : (m : ℕ) → IsMultipleOfScales times m → n ∣ m
 
+-- the greatest common divisor, by Euclid, in at most so many turns
+abbrev pub common_divisor_in : ℕ → ℕ → ℕ → ℕ
+common_divisor_in zero a b = a
+common_divisor_in (suc turns) a zero = a
+common_divisor_in (suc turns) a (suc b) = common_divisor_in turns (suc b) (a % suc b)
+
+-- the rests fall, so b turns are enough
+abbrev pub common_divisor : ℕ → ℕ → ℕ
+common_divisor a b = common_divisor_in b a b
+
+abbrev pub common_multiple : ℕ → ℕ → ℕ
+common_multiple a b = a / common_divisor a b * b
+
+-- the least common multiple of the scales, 1 for none, computed
+abbrev pub common_base : List Time → ℕ
+common_base [] = 1
+common_base (time ∷ times) = common_multiple time.scale (common_base times)
+
+-- it is the least common multiple where no scale is 0
+abbrev pub CommonBaseIsLeast : Type 0
+CommonBaseIsLeast = (times : List Time) → All (λ time. 1 ≤ time.scale) times → IsLeastCommonMultiple times (common_base times)
+
 -- the times have a base, and it is this one
 pub record IsBaseOf (times : List Time) (base : ℕ) : Type 0 where
   pub scaled : All (λ time. 1 ≤ time.scale) times
   pub near : All IsNear times
   pub multiple : IsLeastCommonMultiple times base
   pub positive : 1 ≤ base
-  pub small : base ≤ 2147483647
+  pub small : base ≤ GREATEST_BASE
 
 -- the times before the index have a base, and this time stands there
 pub record IsFirstWithout (times : List Time) (index : ℕ) (time : Time) : Type 0 where
@@ -38,13 +69,13 @@ pub record IsFirstWithout (times : List Time) (index : ℕ) (time : Time) : Type
 abbrev pub Refuses : TimeError → List Time → Type 0
 Refuses (ZeroScale index) times = (time : Time) × IsFirstWithout times index time × (time.scale ≡ 0)
 Refuses (TimeTooFar index) times =
-    (time : Time) × IsFirstWithout times index time × (1 ≤ time.scale) × (36000 * time.scale < unsigned_abs time.value)
+    (time : Time) × IsFirstWithout times index time × (1 ≤ time.scale) × (MOST_SECONDS * time.scale < unsigned_abs time.value)
 Refuses (BaseTooLarge index) times =
     (time : Time)
     × IsFirstWithout times index time
     × (1 ≤ time.scale)
     × IsNear time
-    × ((multiple : ℕ) × IsLeastCommonMultiple (take (index + 1) times) multiple × (2147483647 < multiple))
+    × ((multiple : ℕ) × IsLeastCommonMultiple (take (index + 1) times) multiple × (GREATEST_BASE < multiple))
 
 -- a time in ticks of a base that its scale divides
 abbrev pub tick_of : ℕ → Time → ℤ
@@ -69,7 +100,7 @@ frame_at tick ticks = floor_of tick ticks
 
 -- the tick nearest to t of those within 36,000 seconds of zero
 abbrev pub held_of : ℕ → ℤ → ℤ
-held_of base t = int_max (neg_ℤ (pos (36000 * base))) (int_min (pos (36000 * base)) t)
+held_of base t = int_max (neg_ℤ (pos (MOST_SECONDS * base))) (int_min (pos (MOST_SECONDS * base)) t)
 
 -- a frame's first tick lies in that frame
 abbrev pub FramesAgree : Type 0

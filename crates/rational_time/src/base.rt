@@ -1,13 +1,11 @@
-ghost use Rattle.std.specs.Prelude.{◌≡◌, ◌↔◌, ◌≤◌, ◌<◌, ◌^◌, ℕ, [], IfOk, IsTrue};
+ghost use Rattle.std.specs.Prelude.{◌≡◌, ◌↔◌, ◌≤◌, ◌<◌, ◌^◌, ℕ, [], IfOk, IsTrue, MatchOption};
 ghost use Rattle.std.specs.Int.{◌∣◌};
-ghost use Rattle.rational_time.specs.Times.{IsBaseOf, Refuses, IsNear};
+ghost use Rattle.std.specs.List.{All};
+ghost use Rattle.rational_time.specs.Times.{IsBaseOf, Refuses, IsNear, common_base};
 ghost use Rattle.rational_time.specs.Measure.{IsMeasure};
 
-use crate::time::{MOST_SECONDS, Time, TimeBase};
+use crate::time::{GREATEST_BASE, Time, TimeBase, is_near};
 use thiserror::Error;
-
-/// The greatest number of ticks that a second may have.
-const GREATEST_BASE: u64 = 2147483647;
 
 /// Why times have no common base. The index is that of the first time at fault.
 #[derive(Clone, Copy, Debug, PartialEq, Eq, Error)]
@@ -28,6 +26,7 @@ pub enum TimeError {
 /// 2147483647.
 pub fn base_of(times: &[Time]) -> Result<TimeBase, TimeError>
     ensures base { IfOk result (λ base. IsBaseOf times.now base.ticks) }
+    ensures value { IfOk result (λ base. base.ticks ≡ common_base times.now) }
     ensures refused { (e : TimeError) → ((result ≡ Err e) ↔ Refuses e times.now) }
 {
     let mut ticks: u32 = 1;
@@ -48,11 +47,22 @@ pub fn base_of(times: &[Time]) -> Result<TimeBase, TimeError>
     Ok(TimeBase { ticks })
 }
 
-// Whether the time is at most 36,000 seconds from zero.
-fn is_near(time: Time) -> bool
-    ensures { IsTrue result ↔ IsNear time }
+/// The least common multiple of the scales, and 1 for no times, where it is at most 2147483647,
+/// however far the times are from zero. No scale is 0. This project's own.
+pub fn common_base(times: &[Time]) -> Option<TimeBase>
+    requires { All (λ time. 1 ≤ time.scale) times.now }
+    ensures base { MatchOption result (GREATEST_BASE < common_base times.now) (λ base. base.ticks ≡ common_base times.now) }
+    ensures small { MatchOption result (GREATEST_BASE < common_base times.now) (λ base. base.ticks ≤ GREATEST_BASE) }
 {
-    u64::from(time.value.unsigned_abs()) <= u64::from(MOST_SECONDS) * u64::from(time.scale)
+    let mut base = TimeBase { ticks: 1 };
+    for time in times {
+        let with_time = common_multiple(base.ticks, time.scale);
+        if with_time > GREATEST_BASE {
+            return None;
+        }
+        base.ticks = with_time as u32;
+    }
+    Some(base)
 }
 
 // The least common multiple of two numbers.
@@ -78,39 +88,4 @@ fn common_measure(a: u32, b: u32) -> u32
         y = rest;
     }
     x
-}
-
-#[cfg(test)]
-mod tests {
-    use super::*;
-
-    fn time(value: i32, scale: u32) -> Time {
-        Time { value, scale }
-    }
-
-    fn base(ticks: u32) -> Result<TimeBase, TimeError> {
-        Ok(TimeBase { ticks })
-    }
-
-    #[test]
-    fn bases(rt: HostRuntime) {
-        assert_eq!(rt; base_of(&[]), base(1));
-        assert_eq!(rt; base_of(&[time(1001, 30000), time(1, 24)]), base(30000));
-        assert_eq!(rt; base_of(&[time(1, 24), time(1001, 30000)]), base(30000));
-        assert_eq!(rt; base_of(&[time(1, 4), time(-1, 6)]), base(12));
-        assert_eq!(rt; base_of(&[time(36000, 1)]), base(1));
-        assert_eq!(rt; base_of(&[time(-36000, 1)]), base(1));
-        let large = base_of(&[time(1, 2147483647), time(1, 2)]);
-        assert_eq!(rt; large, Err(TimeError::BaseTooLarge { index: 1 }));
-        let one_large = base_of(&[time(0, 2147483648)]);
-        assert_eq!(rt; one_large, Err(TimeError::BaseTooLarge { index: 0 }));
-        assert_eq!(rt;
-            base_of(&[time(1, 0)]),
-            Err(TimeError::ZeroScale { index: 0 })
-        );
-        let far = base_of(&[time(36001, 1)]);
-        assert_eq!(rt; far, Err(TimeError::TimeTooFar { index: 0 }));
-        let first = base_of(&[time(1, 1), time(-72001, 2), time(1, 0)]);
-        assert_eq!(rt; first, Err(TimeError::TimeTooFar { index: 1 }));
-    }
 }

@@ -1,7 +1,7 @@
-ghost use Rattle.std.specs.Prelude.{◌≡◌, ℕ, ◌*◌, ◌≤◌, ◌<◌, ℤ, pos, ◌≤ℤ◌, ◌<ℤ◌, ◌*ℤ◌, unsigned_abs};
+ghost use Rattle.std.specs.Prelude.{◌≡◌, ◌↔◌, ℕ, ◌*◌, ◌≤◌, ◌<◌, ℤ, pos, ◌≤ℤ◌, ◌<ℤ◌, ◌*ℤ◌, unsigned_abs, IsTrue};
 ghost use Rattle.std.specs.Int.{◌∣◌};
 ghost use Rattle.std.specs.Ordering.{MatchOrdering};
-ghost use Rattle.rational_time.specs.Times.{IsFloor, tick_of, tick_of_frame, frame_at, held_of};
+ghost use Rattle.rational_time.specs.Times.{IsFloor, IsNear, tick_of, tick_of_frame, frame_at, held_of, is_near, comes_before};
 
 use std::cmp::Ordering;
 
@@ -26,14 +26,17 @@ pub struct Tick(pub i64);
 /// The most seconds that a time may be from zero.
 pub const MOST_SECONDS: u32 = 36000;
 
+/// The greatest number of ticks that a second may have.
+pub const GREATEST_BASE: u64 = 2147483647;
+
 /// The time in ticks. Its scale is at least 1 and divides the base, and it is at most 36,000
 /// seconds from zero.
 pub fn to_tick(base: TimeBase, time: Time) -> Tick
     requires scaled { 1 ≤ time.scale }
     requires divides { time.scale ∣ base.ticks }
-    requires near { unsigned_abs time.value ≤ 36000 * time.scale }
+    requires near { unsigned_abs time.value ≤ MOST_SECONDS * time.scale }
     ensures seconds { (result.0 *ℤ pos time.scale) ≡ (time.value *ℤ pos base.ticks) }
-    ensures near { unsigned_abs result.0 ≤ 36000 * base.ticks }
+    ensures near { unsigned_abs result.0 ≤ MOST_SECONDS * base.ticks }
     ensures value { result.0 ≡ tick_of base.ticks time }
 {
     Tick(i64::from(time.value) * i64::from(base.ticks / time.scale))
@@ -44,7 +47,7 @@ pub fn to_tick(base: TimeBase, time: Time) -> Tick
 pub fn frame_tick(frame: u32, ticks: i64) -> Tick
     requires frame { frame ≤ 65535 }
     requires some { pos 1 ≤ℤ ticks }
-    requires few { ticks ≤ℤ pos (36000 * 2147483647) }
+    requires few { ticks ≤ℤ pos (MOST_SECONDS * GREATEST_BASE) }
     ensures { result.0 ≡ tick_of_frame (pos frame) ticks }
 {
     Tick(i64::from(frame) * ticks)
@@ -87,61 +90,17 @@ pub fn compare(a: Time, b: Time) -> Ordering
     left.cmp(&right)
 }
 
-#[cfg(test)]
-mod tests {
-    use super::*;
+/// Whether the time is at most 36,000 seconds from zero.
+pub fn is_near(time: Time) -> bool
+    ensures value { result ≡ is_near time }
+    ensures near { IsTrue result ↔ IsNear time }
+{
+    u64::from(time.value.unsigned_abs()) <= u64::from(MOST_SECONDS) * u64::from(time.scale)
+}
 
-    fn time(value: i32, scale: u32) -> Time
-        ensures { result ≡ record { value = value; scale = scale } }
-    {
-        Time { value, scale }
-    }
-
-    #[test]
-    fn ticks(rt: HostRuntime) {
-        let base = TimeBase { ticks: 30000 };
-        assert_eq!(rt; to_tick(base, time(1001, 30000)), Tick(1001));
-        assert_eq!(rt; to_tick(base, time(1, 24)), Tick(1250));
-        assert_eq!(rt; to_tick(base, time(-36000, 1)), Tick(-1080000000));
-        assert_eq!(rt; frame_tick(3, 1001), Tick(3003));
-        assert_eq!(rt;
-            frame_tick(65535, 77309411292000),
-            Tick(5066472269021220000)
-        );
-        for (tick, want) in [
-            (-1002, -2),
-            (-1001, -1),
-            (-1, -1),
-            (0, 0),
-            (1000, 0),
-            (1001, 1),
-        ] {
-            assert_eq!(rt; frame_of(Tick(tick), 1001), want, "at {tick}");
-        }
-        assert_eq!(rt; frame_of(Tick(i64::MIN), 1), i64::MIN);
-    }
-
-    #[test]
-    fn limits_and_order(rt: HostRuntime) {
-        let base = TimeBase { ticks: 2 };
-        for (tick, want) in [
-            (-72001, -72000),
-            (-72000, -72000),
-            (-71999, -71999),
-            (71999, 71999),
-            (72000, 72000),
-            (72001, 72000),
-        ] {
-            assert_eq!(rt; held(base, tick), Tick(want), "at {tick}");
-        }
-        assert_eq!(rt; held(base, i128::MIN), Tick(-72000));
-        assert_eq!(rt; held(base, i128::MAX), Tick(72000));
-        assert_eq!(rt; compare(time(1, 2), time(2, 4)), Ordering::Equal);
-        assert_eq!(rt; compare(time(-1, 2), time(-1, 3)), Ordering::Less);
-        assert_eq!(rt;
-            compare(time(i32::MAX, 1), time(i32::MIN, u32::MAX)),
-            Ordering::Greater
-        );
-        assert!(rt; time(1, 2) != time(2, 4));
-    }
+/// Whether the first time is less than the second, by cross products.
+pub fn comes_before(a: Time, b: Time) -> bool
+    ensures { result ≡ comes_before a b }
+{
+    i64::from(a.value) * i64::from(b.scale) < i64::from(b.value) * i64::from(a.scale)
 }

@@ -6,6 +6,7 @@ use Rattle.rational_time.specs.declared.time.Time.{Time}
 use Rattle.rational_time.specs.Times.{IsBaseOf, IsFirstWithout, IsLeastCommonMultiple, IsNear}
 use Rattle.rational_time.proofs.Measures.{IsMultipleOfBoth}
 use Rattle.rational_time.proofs.Bases.{base_of_none, base_of_more, multiple_of_more, taken, refused_iff, accepted_iff}
+use Rattle.rational_time.proofs.Multiples.{base_value}
 use Rattle.rational_time.proofs.base.base_of.Goals as goal
 
 pub loop-index-init : goal.loop-index-init
@@ -28,7 +29,7 @@ returns-then-time-eq0-clause-refused c =
 
 pub returns-then-not-near-clause-refused : goal.returns-then-not-near-clause-refused
 returns-then-not-near-clause-refused c =
-    let far : ¬ IsNear (time_at c.args.times.now c.loop-index.index) = λ near. grind (arith, c.is_near-near.ensures.1 near) in
+    let far : ¬ IsNear (time_at c.args.times.now c.loop-index.index) = λ near. grind (arith, c.is_near-near.ensures.near.1 near) in
     refused_iff c.args.times.now (TimeTooFar c.loop-index.index)
     (_, here _ _ _ c.loop-index-test.true c.loop-index.invariant, omega arith, omega (arith, far))
 
@@ -43,7 +44,7 @@ returns-then-multiple-gt-GREATEST_BASE-clause-refused c =
       time_at times index,
       here times index _ c.loop-index-test.true c.loop-index.invariant,
       omega arith,
-      c.is_near-near.ensures.0 c.if-not-near.false,
+      c.is_near-near.ensures.near.0 c.if-not-near.false,
       (
         c.common_multiple-multiple.result,
         subst (λ (part : List Time). IsLeastCommonMultiple part c.common_multiple-multiple.result) (sym (up_to times index c.loop-index-test.true)) more,
@@ -57,11 +58,17 @@ loop-index-preserved c =
     let index : ℕ = c.loop-index.index in
     let e = c.common_multiple-multiple.ensures in
     let both : IsMultipleOfBoth c.loop-index.ticks (time_at times index).scale c.common_multiple-multiple.result = record { first = e.first; second = e.second; least = e.least; positive = e.positive } in
-    let more = base_of_more (take index times) (time_at times index) _ _ c.loop-index.invariant (omega arith) (c.is_near-near.ensures.0 c.if-not-near.false) both c.if-multiple-gt-GREATEST_BASE.false in
+    let more = base_of_more (take index times) (time_at times index) _ _ c.loop-index.invariant (omega arith) (c.is_near-near.ensures.near.0 c.if-not-near.false) both c.if-multiple-gt-GREATEST_BASE.false in
     subst (λ (part : List Time). IsBaseOf part c.common_multiple-multiple.result) (sym (up_to times index c.loop-index-test.true)) more
 
 pub returns-clause-refused : goal.returns-clause-refused
 returns-clause-refused c =
     let whole : take c.loop-index.index c.args.times.now ≡ c.args.times.now = take_all c.loop-index.index c.args.times.now (omega arith) in
     accepted_iff c.args.times.now c.loop-index.ticks _
+    (subst (λ (times : List Time). IsBaseOf times c.loop-index.ticks) whole c.loop-index.invariant)
+
+pub returns-clause-value : goal.returns-clause-value
+returns-clause-value c =
+    let whole : take c.loop-index.index c.args.times.now ≡ c.args.times.now = take_all c.loop-index.index c.args.times.now (omega arith) in
+    base_value c.args.times.now c.loop-index.ticks
     (subst (λ (times : List Time). IsBaseOf times c.loop-index.ticks) whole c.loop-index.invariant)
