@@ -1,0 +1,204 @@
+-- What the rules say of a project that breaks none.
+use Rattle.std.proofs.Common.{◌≡◌, ℕ, ◌+◌, ◌≤◌, Bool, true, false, List, [], ◌∷◌, ℤ, pos, ◌≤ℤ◌, refl, arith}
+use Rattle.std.specs.Prelude.{Option, Some, None, option_map, IsTrue, ◌&&◌, int_lt, int_le, if◌then◌else◌}
+use Rattle.std.specs.List.{All, list_all}
+use Rattle.std.proofs.lemmas.Bool.{and_parts, leb-true, not-false}
+use Rattle.std.proofs.lemmas.Int.{ints}
+use Rattle.std.proofs.lemmas.List.Elements.{All-nil, All-cons, All-weaker}
+use Rattle.std.proofs.lemmas.List.Sums.{AllPass-from_list_all}
+use Rattle.rational_time.specs.Times.{IsNear, is_near}
+use Rattle.rational_time.specs.declared.time.Time.{Time}
+use Rattle.param_stream.specs.Curve.{IsBetween, rises}
+use Rattle.param_stream.specs.declared.key.Keyframe.{Keyframe}
+use Rattle.project_model.specs.Bounds.{most_of, most_frames, full_opacity, least_position, greatest_position, is_among, is_size, is_colour, is_between}
+use Rattle.project_model.specs.Broken.{first_broken, breach_of}
+use Rattle.project_model.specs.Places.{first_of_two, first_from, first_in_comps}
+use Rattle.project_model.specs.Rules.{number_of, rules, place_of, breaks_project, breaks_comp, breaks_layer, is_solid, all_between}
+use Rattle.project_model.specs.Sound.{IsPictureSize, IsColour, IsSoundItem}
+use Rattle.project_model.specs.Times.{layer_times}
+use Rattle.project_model.specs.declared.item.Item.{Item}
+use Rattle.project_model.specs.declared.item.Item.TheVariants.{Solid as SolidItem}
+use Rattle.project_model.specs.declared.place.Place.{Place}
+use Rattle.project_model.specs.declared.place.Place.TheVariants as place
+use Rattle.project_model.specs.declared.plain.PlainLayer.{PlainLayer}
+use Rattle.project_model.specs.declared.plain.PlainComp.{PlainComp}
+use Rattle.project_model.specs.declared.plain.PlainProject.{PlainProject}
+use Rattle.project_model.specs.declared.rule.Rule.{Rule}
+use Rattle.project_model.specs.declared.rule.Rule.TheVariants.{Root, Size, Frames, FrameValue, Near, Length, Base, Solid, Span, Rising, Range}
+
+-- ---- nothing is found
+
+pub neither : {A : Type 0} (a b : Option A) → first_of_two a b ≡ None → (a ≡ None) × (b ≡ None)
+neither None b e = (refl, e)
+neither (Some a) b e = cc
+
+unmapped : {A B : Type 0} (f : A → B) (o : Option A) → option_map f o ≡ None → o ≡ None
+unmapped f None e = refl
+unmapped f (Some a) e = cc
+
+-- none of the rules is broken
+abbrev pub AreKept : {R : Type 0} → (R → Option Place) → List R → Type 0
+AreKept place_of [] = Unit {0}
+AreKept place_of (rule ∷ rest) = (place_of rule ≡ None) × AreKept place_of rest
+
+pub all_kept : {R : Type 0} (number_of : R → ℕ) (place_of : R → Option Place) (rules : List R) → first_broken number_of place_of rules ≡ None → AreKept place_of rules
+all_kept number_of place_of [] e = tt
+all_kept number_of place_of (rule ∷ rest) e =
+    let both = neither _ _ e in
+    (unmapped _ (place_of rule) both.0, all_kept number_of place_of rest both.1)
+
+pub each_kept : (place_of : Rule → Option Place) → AreKept place_of rules → (rule : Rule) → place_of rule ≡ None
+each_kept place_of h Root = h.0
+each_kept place_of h Size = h.1.0
+each_kept place_of h Frames = h.1.1.0
+each_kept place_of h FrameValue = h.1.1.1.0
+each_kept place_of h Near = h.1.1.1.1.0
+each_kept place_of h Length = h.1.1.1.1.1.0
+each_kept place_of h Base = h.1.1.1.1.1.1.0
+each_kept place_of h Solid = h.1.1.1.1.1.1.1.0
+each_kept place_of h Span = h.1.1.1.1.1.1.1.1.0
+each_kept place_of h Rising = h.1.1.1.1.1.1.1.1.1.0
+each_kept place_of h Range = h.1.1.1.1.1.1.1.1.1.1.0
+
+-- no test accepts, at whatever index it is asked
+pub record IsPassed {C L : Type 0} (in_comp : ℕ → C → Bool) (in_layer : C → ℕ → L → Bool) (layers : List L) (comp : C) : Type 0 where
+  pub index : ℕ
+  pub comp_passed : in_comp index comp ≡ false
+  pub layers_passed : All (λ layer. (m : ℕ) × (in_layer comp m layer ≡ false)) layers
+
+-- the test of a choice
+chosen_none : {A : Type 0} (b : Bool) (a : A) (other : Option A) → (if b then Some a else other) ≡ None → (b ≡ false) × (other ≡ None)
+chosen_none true a other e = cc
+chosen_none false a other e = (refl, e)
+
+none_from : {A : Type 0} (test : ℕ → A → Bool) (i : ℕ) (list : List A) → first_from test i list ≡ None → All (λ a. (m : ℕ) × (test m a ≡ false)) list
+none_from test i [] e = All-nil _
+none_from test i (a ∷ rest) e =
+    let both = chosen_none (test i a) i (first_from test (i + 1) rest) e in
+    All-cons (λ x. (m : ℕ) × (test m x ≡ false)) a rest (i, both.0) (none_from test (i + 1) rest both.1)
+
+none_in_comps : {C L : Type 0} (layers_of : C → List L) (in_comp : ℕ → C → Bool) (in_layer : C → ℕ → L → Bool) (i : ℕ) (comps : List C) → first_in_comps layers_of in_comp in_layer i comps ≡ None → All (λ comp. IsPassed in_comp in_layer (layers_of comp) comp) comps
+none_in_comps layers_of in_comp in_layer i [] e = All-nil _
+none_in_comps layers_of in_comp in_layer i (comp ∷ rest) e =
+    let both = neither _ _ e in
+    let here = chosen_none (in_comp i comp) (place.Comp i) _ both.0 in
+    All-cons (λ c. IsPassed in_comp in_layer (layers_of c) c) comp rest
+    (record { index = i; comp_passed = here.0; layers_passed = none_from (in_layer comp) 0 (layers_of comp) (unmapped _ _ here.1) })
+    (none_in_comps layers_of in_comp in_layer (i + 1) rest both.1)
+
+-- the compositions and layers in which the rule is tested
+abbrev pub ArePassed : PlainProject → Rule → Type 0
+ArePassed project rule =
+    All (λ comp. IsPassed (breaks_comp project rule) (breaks_layer project rule) comp.layers comp) project.comps
+
+passed : (project : PlainProject) (rule : Rule) → place_of project rule ≡ None → ArePassed project rule
+passed project rule e =
+    let outside = chosen_none (breaks_project project rule) place.Project _ e in
+    none_in_comps (λ (comp : PlainComp). comp.layers) (breaks_comp project rule) (breaks_layer project rule) 0 project.comps outside.1
+
+pub each_passed : (project : PlainProject) → breach_of project ≡ None → (rule : Rule) → ArePassed project rule
+each_passed project e rule = passed project rule (each_kept (place_of project) (all_kept number_of (place_of project) rules e) rule)
+
+pub outside_passed : (project : PlainProject) → breach_of project ≡ None → (rule : Rule) → breaks_project project rule ≡ false
+outside_passed project e rule =
+    (chosen_none (breaks_project project rule) place.Project _ (each_kept (place_of project) (all_kept number_of (place_of project) rules e) rule)).0
+
+-- ---- in numbers
+
+among : (low high n : ℕ) → is_among low high n ≡ true → (low ≤ n) × (n ≤ high)
+among low high n e =
+    let both = and_parts _ _ e in
+    (leb-true low n both.0, leb-true n high both.1)
+
+picture_size : (width height : ℕ) → is_size width height ≡ true → IsPictureSize width height
+picture_size width height e =
+    let parts = and_parts _ _ e in
+    let sides = and_parts _ _ parts.0 in
+    let wide = among _ _ width sides.0 in
+    let high = among _ _ height sides.1 in
+    record { some_width = wide.0; some_height = high.0; width_bound = wide.1; height_bound = high.1; area_bound = leb-true _ _ parts.1 }
+
+colour : (most a r g b : ℕ) → is_colour most a r g b ≡ true → IsColour most a r g b
+colour most a r g b e =
+    let blue = and_parts _ _ e in
+    let green = and_parts _ _ blue.0 in
+    let red = and_parts _ _ green.0 in
+    record { alpha = leb-true _ _ red.0; red = leb-true _ _ red.1; green = leb-true _ _ green.1; blue = leb-true _ _ blue.1 }
+
+sound_item : (most : ℕ) (item : Item) → is_solid most item ≡ true → IsSoundItem most item
+sound_item most (SolidItem width height a r g b) e =
+    let parts = and_parts _ _ e in
+    (picture_size width height parts.0, colour most a r g b parts.1)
+
+near : (time : Time) → is_near time ≡ true → IsNear time
+near time e = leb-true _ _ e
+
+all_near : (times : List Time) → list_all is_near times ≡ true → All IsNear times
+all_near times e = All-weaker (λ (t : Time). is_near t ≡ true) IsNear near times (AllPass-from_list_all is_near times e)
+
+between : (least most value : ℤ) → is_between least most value ≡ true → IsBetween least most value
+between least most value e =
+    let both = and_parts (int_le least value) (int_le value most) e in
+    (omega (arith, ints, both.0), omega (arith, ints, both.1))
+
+all_within : (least most : ℤ) (keys : List Keyframe) → all_between least most keys ≡ true → All (λ (key : Keyframe). IsBetween least most key.value) keys
+all_within least most keys e =
+    All-weaker (λ (key : Keyframe). is_between least most key.value ≡ true) (λ (key : Keyframe). IsBetween least most key.value)
+    (λ key h. between least most key.value h) keys
+    (AllPass-from_list_all (λ (key : Keyframe). is_between least most key.value) keys e)
+
+-- ---- what a composition keeps
+
+pub record KeepsStreams (layer : PlainLayer) : Type 0 where
+  pub opacity_rises : IsTrue (rises layer.opacity)
+  pub x_rises : IsTrue (rises layer.x)
+  pub y_rises : IsTrue (rises layer.y)
+
+pub record KeepsRanges (layer : PlainLayer) : Type 0 where
+  pub opacity : All (λ key. IsBetween (pos 0) full_opacity key.value) layer.opacity
+  pub x : All (λ key. IsBetween least_position greatest_position key.value) layer.x
+  pub y : All (λ key. IsBetween least_position greatest_position key.value) layer.y
+
+pub record KeepsComp (depth : ℕ) (comp : PlainComp) : Type 0 where
+  pub size : IsPictureSize comp.width comp.height
+  pub some_frame : 1 ≤ comp.frames
+  pub few_frames : comp.frames ≤ most_frames
+  pub some_time : pos 1 ≤ℤ comp.frame.value
+  pub frame_near : IsNear comp.frame
+  pub layers_near : All (λ layer. All IsNear (layer_times layer)) comp.layers
+  pub sources : All (λ layer. IsSoundItem (most_of depth) layer.source) comp.layers
+  pub rising : All KeepsStreams comp.layers
+  pub ranges : All KeepsRanges comp.layers
+
+rising_layer : (layer : PlainLayer) → (rises layer.opacity && rises layer.x && rises layer.y) ≡ true → KeepsStreams layer
+rising_layer layer e =
+    let parts = and_parts _ _ e in
+    let front = and_parts _ _ parts.0 in
+    record { opacity_rises = front.0; x_rises = front.1; y_rises = parts.1 }
+
+ranged_layer : (layer : PlainLayer) → (all_between (pos 0) full_opacity layer.opacity && all_between least_position greatest_position layer.x && all_between least_position greatest_position layer.y) ≡ true → KeepsRanges layer
+ranged_layer layer e =
+    let parts = and_parts _ _ e in
+    let front = and_parts _ _ parts.0 in
+    record { opacity = all_within _ _ layer.opacity front.0; x = all_within _ _ layer.x front.1; y = all_within _ _ layer.y parts.1 }
+
+above : (value : ℤ) → int_lt value (pos 1) ≡ false → pos 1 ≤ℤ value
+above value e = omega (arith, ints, e)
+
+comp_keeps : (project : PlainProject) (comp : PlainComp) → ((rule : Rule) → IsPassed (breaks_comp project rule) (breaks_layer project rule) comp.layers comp) → KeepsComp project.depth comp
+comp_keeps project comp h =
+    let frames = among 1 most_frames comp.frames (not-false _ (h Frames).comp_passed) in
+    record {
+      size = picture_size comp.width comp.height (not-false _ (h Size).comp_passed);
+      some_frame = frames.0;
+      few_frames = frames.1;
+      some_time = above comp.frame.value (h FrameValue).comp_passed;
+      frame_near = near comp.frame (not-false _ (h Near).comp_passed);
+      layers_near = All-weaker (λ layer. (m : ℕ) × (breaks_layer project Near comp m layer ≡ false)) (λ layer. All IsNear (layer_times layer)) (λ layer k. all_near (layer_times layer) (not-false _ k.1)) comp.layers (h Near).layers_passed;
+      sources = All-weaker (λ layer. (m : ℕ) × (breaks_layer project Solid comp m layer ≡ false)) (λ layer. IsSoundItem (most_of project.depth) layer.source) (λ layer k. sound_item (most_of project.depth) layer.source (not-false _ k.1)) comp.layers (h Solid).layers_passed;
+      rising = All-weaker (λ layer. (m : ℕ) × (breaks_layer project Rising comp m layer ≡ false)) KeepsStreams (λ layer k. rising_layer layer (not-false _ k.1)) comp.layers (h Rising).layers_passed;
+      ranges = All-weaker (λ layer. (m : ℕ) × (breaks_layer project Range comp m layer ≡ false)) KeepsRanges (λ layer k. ranged_layer layer (not-false _ k.1)) comp.layers (h Range).layers_passed;
+    }
+
+pub comps_keep : (project : PlainProject) → breach_of project ≡ None → All (KeepsComp project.depth) project.comps
+comps_keep project e k d within = comp_keeps project _ (λ rule. each_passed project e rule k d within)

@@ -1,0 +1,11 @@
+pub mod Based
+pub mod Copied
+pub mod First
+pub mod Formed
+pub mod Found
+pub mod Hand
+pub mod Joined
+pub mod Keeps
+pub mod Least
+pub mod Readied
+pub mod Widths

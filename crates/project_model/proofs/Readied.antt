@@ -1,0 +1,169 @@
+-- Parts that keep the rules can be made, and what is made of them is sound.
+use Rattle.std.proofs.Common.{◌≡◌, ℕ, ◌≤◌, List, [], ◌∷◌, ◌++◌, length, map, ℤ, pos, sym, ◌∙◌, subst, ap, arith}
+use Rattle.std.specs.Prelude.{Option, Some, None, IsTrue, option_to_list, slice_index_or}
+use Rattle.std.specs.Int.{◌∣◌}
+use Rattle.std.specs.List.{All, flat_map}
+use Rattle.std.proofs.lemmas.List.{length-map}
+use Rattle.std.proofs.lemmas.List.Elements.{All-nil, All-cons, All-head, All-tail, All-weaker}
+use Rattle.std.proofs.lemmas.Bool.{ltb-true, not-false}
+use Rattle.rational_time.proofs.Multiples.{is_base}
+use Rattle.rational_time.specs.Times.{IsNear, common_base}
+use Rattle.rational_time.specs.declared.time.Time.{Time}
+use Rattle.rational_time.specs.declared.time.TimeBase.{TimeBase}
+use Rattle.param_stream.specs.Curve.{IsTimed, IsBetween, rises}
+use Rattle.param_stream.specs.declared.key.Keyframe.{Keyframe}
+use Rattle.param_stream.proofs.Rising.{both_rise}
+use Rattle.project_model.specs.Bounds.{most_of, greatest_base, full_opacity, least_position, greatest_position}
+use Rattle.project_model.specs.Broken.{breach_of}
+use Rattle.project_model.specs.Form.{IsFormed, IsFormedComp, IsFormedLayer, IsKeyCount}
+use Rattle.project_model.specs.Plain.{plain_layer, plain_comp, plain_of}
+use Rattle.project_model.specs.Ready.{AreReady, IsReadyLayer, IsReadyComp, IsMadeComp}
+use Rattle.project_model.specs.Sound.{IsWritten, MayBeWritten, IsMadeLayer, IsSoundItem, IsSoundLayer, IsSoundComp, IsSound}
+use Rattle.project_model.specs.Times.{key_times, layer_times, comp_times, times_of}
+use Rattle.project_model.specs.declared.layer.Layer.{Layer}
+use Rattle.project_model.specs.declared.comp.Comp.{Comp}
+use Rattle.project_model.specs.declared.project.Project.{Project}
+use Rattle.project_model.specs.declared.plain.PlainLayer.{PlainLayer}
+use Rattle.project_model.specs.declared.plain.PlainComp.{PlainComp}
+use Rattle.project_model.specs.declared.plain.PlainProject.{PlainProject}
+use Rattle.project_model.specs.declared.rule.Rule.TheVariants.{Root}
+use Rattle.project_model.proofs.Keeps.{KeepsComp, KeepsStreams, KeepsRanges, comps_keep, outside_passed}
+
+-- ---- parts of lists
+
+left : {X : Type 0} (P : X → Type 0) (xs ys : List X) → All P (xs ++ ys) → All P xs
+left P [] ys all = All-nil P
+left P (x ∷ xs) ys all = All-cons P x xs (All-head P x (xs ++ ys) all) (left P xs ys (All-tail P x (xs ++ ys) all))
+
+right : {X : Type 0} (P : X → Type 0) (xs ys : List X) → All P (xs ++ ys) → All P ys
+right P [] ys all = all
+right P (x ∷ xs) ys all = right P xs ys (All-tail P x (xs ++ ys) all)
+
+pieces : {X Y : Type 0} (P : Y → Type 0) (f : X → List Y) (xs : List X) → All P (flat_map f xs) → All (λ x. All P (f x)) xs
+pieces P f [] all = All-nil _
+pieces P f (x ∷ xs) all =
+    All-cons (λ y. All P (f y)) x xs (left P (f x) (flat_map f xs) all) (pieces P f xs (right P (f x) (flat_map f xs) all))
+
+unmapped : {X Y : Type 0} (P : Y → Type 0) (f : X → Y) (xs : List X) → All P (map f xs) → All (λ x. P (f x)) xs
+unmapped P f [] all = All-nil _
+unmapped P f (x ∷ xs) all =
+    All-cons (λ y. P (f y)) x xs (All-head P (f x) (map f xs) all) (unmapped P f xs (All-tail P (f x) (map f xs) all))
+
+-- ---- times
+
+-- a scale that may be written over the base
+pub record IsScaled (base : ℕ) (time : Time) : Type 0 where
+  pub scaled : 1 ≤ time.scale
+  pub divides : time.scale ∣ base
+
+written : (base : ℕ) (times : List Time) → All (IsScaled base) times → All IsNear times → All (IsWritten base) times
+written base times scaled near k d within =
+    record { scaled = (scaled k d within).scaled; divides = (scaled k d within).divides; near = near k d within }
+
+timed : (base : ℕ) (keys : List Keyframe) → All (IsWritten base) (key_times keys) → All (IsTimed base) keys
+timed base keys all =
+    All-weaker (λ (key : Keyframe). IsWritten base key.time) (IsTimed base)
+    (λ key h. record { scaled = h.scaled; divides = h.divides; near = h.near })
+    keys
+    (unmapped (IsWritten base) (λ (key : Keyframe). key.time) keys all)
+
+keys_ready : (base : ℕ) (least most : ℤ) (keys : List Keyframe) → 1 ≤ base → IsKeyCount keys → All (IsWritten base) (key_times keys) → IsTrue (rises keys) → All (λ (key : Keyframe). IsBetween least most key.value) keys → AreReady base least most keys
+keys_ready base least most keys some count times rising within =
+    let all = timed base keys times in
+    record { some = count.some; few = count.few; timed = all; rising = (both_rise base keys some all).0 rising; within = within }
+
+out_written : (base : ℕ) (out : Option Time) → All (IsWritten base) (option_to_list out) → MayBeWritten base out
+out_written base None all = tt
+out_written base (Some time) all = All-head (IsWritten base) time [] all
+
+layer_ready : (base : ℕ) (layer : PlainLayer) → 1 ≤ base → IsFormedLayer layer → All (IsScaled base) (layer_times layer) → All IsNear (layer_times layer) → KeepsStreams layer → KeepsRanges layer → IsReadyLayer base layer
+layer_ready base layer some formed scaled near rising ranges =
+    let P : Time → Type 0 = IsWritten base in
+    let points : List Time = layer.start ∷ layer.in_point ∷ option_to_list layer.out_point in
+    let o : List Time = key_times layer.opacity in
+    let x : List Time = key_times layer.x in
+    let y : List Time = key_times layer.y in
+    let all = written base (layer_times layer) scaled near in
+    let to_x = left P (points ++ o ++ x) y all in
+    let to_o = left P (points ++ o) x to_x in
+    let first = left P points o to_o in
+    let second = All-tail P layer.start (layer.in_point ∷ option_to_list layer.out_point) first in
+    record {
+      start = All-head P layer.start (layer.in_point ∷ option_to_list layer.out_point) first;
+      in_point = All-head P layer.in_point (option_to_list layer.out_point) second;
+      out_point = out_written base layer.out_point (All-tail P layer.in_point (option_to_list layer.out_point) second);
+      opacity = keys_ready base (pos 0) full_opacity layer.opacity some formed.opacity (right P points o to_o) rising.opacity_rises ranges.opacity;
+      x = keys_ready base least_position greatest_position layer.x some formed.x (right P (points ++ o) x to_x) rising.x_rises ranges.x;
+      y = keys_ready base least_position greatest_position layer.y some formed.y (right P (points ++ o ++ x) y all) rising.y_rises ranges.y;
+    }
+
+comp_ready : (base depth : ℕ) (comp : PlainComp) → 1 ≤ base → IsFormedComp comp → All (IsScaled base) (comp_times comp) → KeepsComp depth comp → IsReadyComp base comp
+comp_ready base depth comp some formed scaled keeps =
+    let frame = All-head (IsScaled base) comp.frame (flat_map layer_times comp.layers) scaled in
+    let rest = pieces (IsScaled base) layer_times comp.layers (All-tail (IsScaled base) comp.frame (flat_map layer_times comp.layers) scaled) in
+    record {
+      frame = record { scaled = frame.scaled; divides = frame.divides; near = keeps.frame_near };
+      few_layers = formed.few_layers;
+      layers = λ k d within.
+          layer_ready base (slice_index_or comp.layers k d) some (formed.layers k d within) (rest k d within) (keeps.layers_near k d within) (keeps.rising k d within) (keeps.ranges k d within);
+    }
+
+all_scaled : (project : PlainProject) (base : ℕ) → IsFormed project → base ≡ common_base (times_of project) → All (IsScaled base) (times_of project)
+all_scaled project base formed is k d within = record {
+  scaled = formed.scaled k d within;
+  divides = rw is ((is_base (times_of project) formed.scaled).multiple.common k d within);
+}
+
+some_base : (project : PlainProject) (base : ℕ) → IsFormed project → base ≡ common_base (times_of project) → 1 ≤ base
+some_base project base formed is = rw is ((is_base (times_of project) formed.scaled).positive)
+
+pub comps_ready : (project : PlainProject) (base : ℕ) → IsFormed project → breach_of project ≡ None → base ≡ common_base (times_of project) → All (IsReadyComp base) project.comps
+comps_ready project base formed kept is k d within =
+    comp_ready base project.depth (slice_index_or project.comps k d) (some_base project base formed is) (formed.comps k d within)
+    (pieces (IsScaled base) comp_times project.comps (all_scaled project base formed is) k d within)
+    (comps_keep project kept k d within)
+
+-- ---- what was made
+
+layer_sound : (depth base : ℕ) (layer : Layer) → IsSoundItem (most_of depth) layer.source → IsReadyLayer base (plain_layer layer) → IsMadeLayer base layer → IsSoundLayer depth base layer
+layer_sound depth base layer source ready made =
+    record { source = source; start = ready.start; in_point = ready.in_point; out_point = ready.out_point; streams = made }
+
+comp_sound : (depth base : ℕ) (comp : Comp) → KeepsComp depth (plain_comp comp) → IsReadyComp base (plain_comp comp) → IsMadeComp base comp → IsSoundComp depth base comp
+comp_sound depth base comp keeps ready made =
+    let sources = unmapped (λ (layer : PlainLayer). IsSoundItem (most_of depth) layer.source) plain_layer comp.layers keeps.sources in
+    let layers = unmapped (IsReadyLayer base) plain_layer comp.layers ready.layers in
+    record {
+      size = keeps.size;
+      some_frame = keeps.some_frame;
+      few_frames = keeps.few_frames;
+      frame = ready.frame;
+      some_time = keeps.some_time;
+      layers = λ k d within. layer_sound depth base (slice_index_or comp.layers k d) (sources k d within) (layers k d within) (made k d within);
+    }
+
+pub project_sound : (project : Project) → IsFormed (plain_of project) → breach_of (plain_of project) ≡ None → project.base.ticks ≡ common_base (times_of (plain_of project)) → project.base.ticks ≤ greatest_base → All (IsMadeComp project.base.ticks) project.comps → IsSound project
+project_sound project formed kept is small made =
+    let plain : PlainProject = plain_of project in
+    let base : ℕ = project.base.ticks in
+    let keeps = unmapped (KeepsComp project.depth) plain_comp project.comps (comps_keep plain kept) in
+    let ready = unmapped (IsReadyComp base) plain_comp project.comps (comps_ready plain base formed kept is) in
+    let root = ltb-true project.root (length plain.comps) (not-false _ (outside_passed plain kept Root)) in
+    record {
+      base = is;
+      some_base = some_base plain base formed is;
+      base_bound = small;
+      root = omega (arith, root, length-map project.comps plain_comp);
+      comps = λ k d within. comp_sound project.depth base (slice_index_or project.comps k d) (keeps k d within) (ready k d within) (made k d within);
+    }
+
+-- the same, of the parts that it was made of
+pub sound_of : (project : Project) (plain : PlainProject) (base : TimeBase) → IsFormed plain → breach_of plain ≡ None → base.ticks ≡ common_base (times_of plain) → base.ticks ≤ greatest_base → plain_of project ≡ plain → project.base ≡ base → All (IsMadeComp base.ticks) project.comps → IsSound project
+sound_of project plain base formed kept is small same based made =
+    let ticks : project.base.ticks ≡ base.ticks = ap (λ (b : TimeBase). b.ticks) based in
+    project_sound project
+    (subst IsFormed (sym same) formed)
+    (subst (λ (p : PlainProject). breach_of p ≡ None) (sym same) kept)
+    (ticks ∙ is ∙ ap (λ (p : PlainProject). common_base (times_of p)) (sym same))
+    (omega (arith, ticks, small))
+    (subst (λ (n : ℕ). All (IsMadeComp n) project.comps) (sym ticks) made)

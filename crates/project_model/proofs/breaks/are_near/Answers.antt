@@ -1,0 +1,11 @@
+use Rattle.std.proofs.Common.{◌∙◌, sym, rules, tests}
+use Rattle.std.proofs.lemmas.Iterator.{YieldsList-from_slice}
+use Rattle.std.proofs.lemmas.Iterator.Search.{all_from_yields_List}
+use Rattle.std.proofs.lemmas.List.Folds.{list_all-map}
+use Rattle.rational_time.specs.Times.{is_near}
+use Rattle.project_model.proofs.breaks.are_near.Goals as goal
+
+pub returns : goal.returns
+returns c =
+    all_from_yields_List (λ k. is_near k.time) _ _ _ c.all.ensures.ran (YieldsList-from_slice c.args.keys.now cc) (λ x b q k. search (rules, tests))
+    ∙ sym (list_all-map is_near (λ k. k.time) c.args.keys.now)

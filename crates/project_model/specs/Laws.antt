@@ -1,0 +1,64 @@
+-- Laws of the first broken rule and of its first place, over the definitions alone.
+use Rattle.std.specs.Prelude.{◌≡◌, ◌↔◌, ◌<◌, ◌⊎◌, Some, None, IsTrue, slice_get}
+use Rattle.project_model.specs.Broken.{breach_of}
+use Rattle.project_model.specs.Checked.{breach_in}
+use Rattle.project_model.specs.Plain.{plain_of}
+use Rattle.project_model.specs.Rules.{number_of, place_of, breaks_project, breaks_comp, breaks_layer}
+use Rattle.project_model.specs.Sound.{IsSound}
+use Rattle.project_model.specs.declared.place.Breach.{Breach}
+use Rattle.project_model.specs.declared.place.Place.{Place}
+use Rattle.project_model.specs.declared.place.Place.TheVariants as place
+use Rattle.project_model.specs.declared.plain.PlainComp.{PlainComp}
+use Rattle.project_model.specs.declared.plain.PlainLayer.{PlainLayer}
+use Rattle.project_model.specs.declared.plain.PlainProject.{PlainProject}
+use Rattle.project_model.specs.declared.project.Project.{Project}
+use Rattle.project_model.specs.declared.rule.Rule.{Rule}
+
+-- no rule is broken exactly where each has no place
+abbrev pub RulesAreKept : Type 0
+RulesAreKept = (project : PlainProject) → (breach_of project ≡ None) ↔ ((rule : Rule) → place_of project rule ≡ None)
+
+-- the breach is that of a rule, and no rule with a lesser number is broken
+pub record IsLeastBreach (project : PlainProject) (breach : Breach) : Type 0 where
+  pub rule : Rule
+  pub number : number_of rule ≡ breach.number
+  pub place : place_of project rule ≡ Some breach.place
+  pub least : (other : Rule) → number_of other < breach.number → place_of project other ≡ None
+
+abbrev pub BreachIsFirst : Type 0
+BreachIsFirst = (project : PlainProject) (breach : Breach) → breach_of project ≡ Some breach → IsLeastBreach project breach
+
+-- a project whose streams and base are as they should be breaks the rules that its plain parts break
+abbrev pub SoundIsBased : Type 0
+SoundIsBased = (project : Project) → IsSound project → breach_in project ≡ breach_of (plain_of project)
+
+-- the rule is broken there
+abbrev pub IsBrokenAt : PlainProject → Rule → Place → Type 0
+IsBrokenAt project rule place.Project = IsTrue (breaks_project project rule)
+IsBrokenAt project rule (place.Comp i) =
+    (comp : PlainComp) × (slice_get project.comps i ≡ Some comp) × IsTrue (breaks_comp project rule i comp)
+IsBrokenAt project rule (place.Layer i j) =
+    (comp : PlainComp)
+    × (slice_get project.comps i ≡ Some comp)
+    × ((layer : PlainLayer) × (slice_get comp.layers j ≡ Some layer) × IsTrue (breaks_layer project rule comp j layer))
+
+-- the one place stands before the other: a composition before its layers, and they before the next composition
+abbrev pub StandsBefore : Place → Place → Type 0
+StandsBefore place.Project place.Project = ⊥
+StandsBefore place.Project (place.Comp i) = Unit {0}
+StandsBefore place.Project (place.Layer i j) = Unit {0}
+StandsBefore (place.Comp i) place.Project = ⊥
+StandsBefore (place.Comp i) (place.Comp k) = i < k
+StandsBefore (place.Comp i) (place.Layer k m) = (i < k) ⊎ (i ≡ k)
+StandsBefore (place.Layer i j) place.Project = ⊥
+StandsBefore (place.Layer i j) (place.Comp k) = i < k
+StandsBefore (place.Layer i j) (place.Layer k m) = (i < k) ⊎ ((i ≡ k) × (j < m))
+
+-- it is broken at its first place, and at none before
+pub record IsFirstPlace (project : PlainProject) (rule : Rule) (first : Place) : Type 0 where
+  pub broken : IsBrokenAt project rule first
+  pub first_of_all : (other : Place) → StandsBefore other first → ¬ IsBrokenAt project rule other
+
+pub record PlaceIsFirst : Type 0 where
+  pub some : (project : PlainProject) (rule : Rule) (first : Place) → place_of project rule ≡ Some first → IsFirstPlace project rule first
+  pub none : (project : PlainProject) (rule : Rule) → place_of project rule ≡ None → (other : Place) → ¬ IsBrokenAt project rule other

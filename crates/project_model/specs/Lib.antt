@@ -1,0 +1,14 @@
+pub mod Bounds
+pub mod Broken
+pub mod Checked
+pub mod Count
+pub mod Form
+pub mod Given
+pub mod Laws
+pub mod Places
+pub mod Plain
+pub mod Ready
+pub mod Rules
+pub mod Sound
+pub mod Times
+pub mod Worked

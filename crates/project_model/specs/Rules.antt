@@ -1,0 +1,90 @@
+-- The rules on a project's numbers: a line a rule for what breaks it, at each kind of place.
+use Rattle.std.specs.Prelude.{ℕ, ◌*◌, ◌&&◌, Bool, false, not, nat_lt, List, [], ◌∷◌, length, ℤ, pos, ◌*ℤ◌, int_lt, int_le, Option, Some, None}
+use Rattle.std.specs.List.{list_all}
+use Rattle.rational_time.specs.Times.{common_base, is_near, comes_before}
+use Rattle.rational_time.specs.declared.time.Time.{Time}
+use Rattle.rational_time.specs.declared.time.TheConstants.{MOST_SECONDS}
+use Rattle.param_stream.specs.Curve.{rises}
+use Rattle.param_stream.specs.declared.key.Keyframe.{Keyframe}
+use Rattle.project_model.specs.Bounds.{most_of, most_frames, greatest_base, full_opacity, least_position, greatest_position, is_among, is_size, is_colour, is_between}
+use Rattle.project_model.specs.Times.{layer_times, times_of}
+use Rattle.project_model.specs.Places.{first_place}
+use Rattle.project_model.specs.declared.item.Item.{Item}
+use Rattle.project_model.specs.declared.item.Item.TheVariants.{Solid as SolidItem}
+use Rattle.project_model.specs.declared.plain.PlainLayer.{PlainLayer}
+use Rattle.project_model.specs.declared.plain.PlainComp.{PlainComp}
+use Rattle.project_model.specs.declared.plain.PlainProject.{PlainProject}
+use Rattle.project_model.specs.declared.place.Place.{Place}
+use Rattle.project_model.specs.declared.rule.Rule.{Rule}
+use Rattle.project_model.specs.declared.rule.Rule.TheVariants.{Root, Size, Frames, FrameValue, Near, Length, Base, Solid, Span, Rising, Range}
+
+abbrev pub number_of : Rule → ℕ
+number_of Root = 16
+number_of Size = 19
+number_of Frames = 21
+number_of FrameValue = 22
+number_of Near = 23
+number_of Length = 24
+number_of Base = 25
+number_of Solid = 27
+number_of Span = 34
+number_of Rising = 35
+number_of Range = 36
+
+-- all of them, in the order of their numbers
+abbrev pub rules : List Rule
+rules = Root ∷ Size ∷ Frames ∷ FrameValue ∷ Near ∷ Length ∷ Base ∷ Solid ∷ Span ∷ Rising ∷ Range ∷ []
+
+-- a solid of this size and colour
+abbrev pub is_solid : ℕ → Item → Bool
+is_solid most (SolidItem width height a r g b) = is_size width height && is_colour most a r g b
+
+-- all frames of the composition together last longer than a time may be from zero
+abbrev pub is_too_long : PlainComp → Bool
+is_too_long comp = int_lt (pos (MOST_SECONDS * comp.frame.scale)) (comp.frame.value *ℤ pos comp.frames)
+
+-- a time is no later than all frames of the composition together last
+abbrev pub is_within_length : Time → PlainComp → Bool
+is_within_length time comp =
+    int_le (time.value *ℤ pos comp.frame.scale) ((comp.frame.value *ℤ pos comp.frames) *ℤ pos time.scale)
+
+-- a layer begins no later than it ends
+abbrev pub begins_in_time : PlainComp → Time → Option Time → Bool
+begins_in_time comp begin None = is_within_length begin comp
+begins_in_time comp begin (Some end) = not (comes_before end begin)
+
+-- each value of the stream is from the least to the most
+abbrev pub all_between : ℤ → ℤ → List Keyframe → Bool
+all_between least most keys = list_all (λ key. is_between least most key.value) keys
+
+-- what breaks a rule in the project outside its compositions
+abbrev pub breaks_project : PlainProject → Rule → Bool
+breaks_project project Root = not (nat_lt project.root (length project.comps))
+breaks_project project Base = nat_lt greatest_base (common_base (times_of project))
+breaks_project project _ = false
+
+-- what breaks it in a composition outside its layers, which has this index
+abbrev pub breaks_comp : PlainProject → Rule → ℕ → PlainComp → Bool
+breaks_comp project Size index comp = not (is_size comp.width comp.height)
+breaks_comp project Frames index comp = not (is_among 1 most_frames comp.frames)
+breaks_comp project FrameValue index comp = int_lt comp.frame.value (pos 1)
+breaks_comp project Near index comp = not (is_near comp.frame)
+breaks_comp project Length index comp = is_too_long comp
+breaks_comp project _ index comp = false
+
+-- what breaks it in a layer, which has this index in the composition
+abbrev pub breaks_layer : PlainProject → Rule → PlainComp → ℕ → PlainLayer → Bool
+breaks_layer project Near comp index layer = not (list_all is_near (layer_times layer))
+breaks_layer project Solid comp index layer = not (is_solid (most_of project.depth) layer.source)
+breaks_layer project Span comp index layer = not (begins_in_time comp layer.in_point layer.out_point)
+breaks_layer project Rising comp index layer = not (rises layer.opacity && rises layer.x && rises layer.y)
+breaks_layer project Range comp index layer =
+    not (all_between (pos 0) full_opacity layer.opacity
+    && all_between least_position greatest_position layer.x
+    && all_between least_position greatest_position layer.y)
+breaks_layer project _ comp index layer = false
+
+-- the first place where the rule is broken
+abbrev pub place_of : PlainProject → Rule → Option Place
+place_of project rule =
+    first_place (λ comp. comp.layers) (breaks_project project rule) (breaks_comp project rule) (breaks_layer project rule) project.comps

@@ -1,0 +1,77 @@
+-- What holds of a project that keeps the rules, and of its streams.
+use Rattle.std.specs.Prelude.{◌≡◌, ℕ, ◌*◌, ◌<◌, ◌≤◌, length, ℤ, pos, ◌≤ℤ◌, All, Option, Some, None}
+use Rattle.std.specs.Int.{◌∣◌}
+use Rattle.rational_time.specs.Times.{IsNear, common_base}
+use Rattle.rational_time.specs.declared.time.Time.{Time}
+use Rattle.param_stream.specs.Curve.{Curve}
+use Rattle.project_model.specs.Bounds.{most_of, greatest_side, greatest_area, most_frames, greatest_base, full_opacity, least_position, greatest_position}
+use Rattle.project_model.specs.Plain.{plain_of}
+use Rattle.project_model.specs.Times.{times_of}
+use Rattle.project_model.specs.declared.item.Item.{Item}
+use Rattle.project_model.specs.declared.item.Item.TheVariants.{Solid}
+use Rattle.project_model.specs.declared.layer.Layer.{Layer}
+use Rattle.project_model.specs.declared.comp.Comp.{Comp}
+use Rattle.project_model.specs.declared.project.Project.{Project}
+
+-- the sides that a picture may have
+pub record IsPictureSize (width height : ℕ) : Type 0 where
+  pub some_width : 1 ≤ width
+  pub some_height : 1 ≤ height
+  pub width_bound : width ≤ greatest_side
+  pub height_bound : height ≤ greatest_side
+  pub area_bound : width * height ≤ greatest_area
+
+-- a premultiplied colour
+pub record IsColour (most a r g b : ℕ) : Type 0 where
+  pub alpha : a ≤ most
+  pub red : r ≤ a
+  pub green : g ≤ a
+  pub blue : b ≤ a
+
+abbrev pub IsSoundItem : ℕ → Item → Type 0
+IsSoundItem most (Solid width height a r g b) = IsPictureSize width height × IsColour most a r g b
+
+-- a whole number of ticks of the base
+pub record IsWritten (base : ℕ) (time : Time) : Type 0 where
+  pub scaled : 1 ≤ time.scale
+  pub divides : time.scale ∣ base
+  pub near : IsNear time
+
+-- where there is a time, it is one
+abbrev pub MayBeWritten : ℕ → Option Time → Type 0
+MayBeWritten base None = Unit {0}
+MayBeWritten base (Some time) = IsWritten base time
+
+-- the stream was made with this base and these bounds
+pub record IsMadeWith (base : ℕ) (least most : ℤ) (curve : Curve) : Type 0 where
+  pub base_is : curve.base ≡ base
+  pub least_is : curve.least ≡ least
+  pub most_is : curve.most ≡ most
+
+-- its streams were
+pub record IsMadeLayer (base : ℕ) (layer : Layer) : Type 0 where
+  pub opacity : IsMadeWith base (pos 0) full_opacity layer.opacity
+  pub x : IsMadeWith base least_position greatest_position layer.x
+  pub y : IsMadeWith base least_position greatest_position layer.y
+
+pub record IsSoundLayer (depth base : ℕ) (layer : Layer) : Type 0 where
+  pub source : IsSoundItem (most_of depth) layer.source
+  pub start : IsWritten base layer.start
+  pub in_point : IsWritten base layer.in_point
+  pub out_point : MayBeWritten base layer.out_point
+  pub streams : IsMadeLayer base layer
+
+pub record IsSoundComp (depth base : ℕ) (comp : Comp) : Type 0 where
+  pub size : IsPictureSize comp.width comp.height
+  pub some_frame : 1 ≤ comp.frames
+  pub few_frames : comp.frames ≤ most_frames
+  pub frame : IsWritten base comp.frame
+  pub some_time : pos 1 ≤ℤ comp.frame.value
+  pub layers : All (IsSoundLayer depth base) comp.layers
+
+pub record IsSound (project : Project) : Type 0 where
+  pub base : project.base.ticks ≡ common_base (times_of (plain_of project))
+  pub some_base : 1 ≤ project.base.ticks
+  pub base_bound : project.base.ticks ≤ greatest_base
+  pub root : project.root < length project.comps
+  pub comps : All (IsSoundComp project.depth project.base.ticks) project.comps

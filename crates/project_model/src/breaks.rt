@@ -1,0 +1,141 @@
+//! What breaks a rule, at each kind of place.
+
+ghost use Rattle.std.specs.Prelude.{◌≡◌, ℕ, pos, ◌*ℤ◌, option_to_list};
+ghost use Rattle.std.specs.List.{list_all};
+ghost use Rattle.rational_time.specs.Times.{is_near};
+ghost use Rattle.project_model.specs.Times.{key_times, layer_times};
+ghost use Rattle.project_model.specs.Rules.{breaks_comp, breaks_layer, is_solid, is_within_length, begins_in_time, all_between, is_too_long};
+ghost use Rattle.project_model.specs.declared.plain.PlainProject.{PlainProject as Plain};
+
+use crate::bounds::{
+    FULL_OPACITY, GREATEST_POSITION, LEAST_POSITION, MOST_FRAMES, is_among, is_between, is_colour,
+    is_size, most_of,
+};
+use crate::{Item, PlainComp, PlainLayer, PlainProject, Rule};
+use param_stream::{Keyframe, rises};
+use rational_time::{MOST_SECONDS, Time, comes_before, is_near};
+
+/// Whether the rule is broken in the composition outside its layers.
+pub fn breaks_comp(rule: Rule, comp: &PlainComp) -> bool
+    ensures { (project : Plain) (index : ℕ) → result ≡ breaks_comp project rule index comp.now }
+{
+    match rule {
+        Rule::Size => !is_size(comp.width, comp.height),
+        Rule::Frames => !is_among(1, MOST_FRAMES, comp.frames),
+        Rule::FrameValue => comp.frame.value < 1,
+        Rule::Near => !is_near(comp.frame),
+        Rule::Length => is_too_long(comp),
+        _ => false,
+    }
+}
+
+/// Whether the rule is broken in the layer of the composition.
+pub fn breaks_layer(
+    project: &PlainProject,
+    rule: Rule,
+    comp: &PlainComp,
+    layer: &PlainLayer,
+) -> bool
+    ensures { (index : ℕ) → result ≡ breaks_layer project.now rule comp.now index layer.now }
+{
+    match rule {
+        Rule::Near => !is_near_layer(layer),
+        Rule::Solid => !is_solid(most_of(project.depth), layer.source),
+        Rule::Span => !begins_in_time(comp, layer.in_point, layer.out_point),
+        Rule::Rising => {
+            !(rises(layer.opacity.as_slice())
+                && rises(layer.x.as_slice())
+                && rises(layer.y.as_slice()))
+        }
+        Rule::Range => {
+            !(all_between(0, FULL_OPACITY, layer.opacity.as_slice())
+                && all_between(LEAST_POSITION, GREATEST_POSITION, layer.x.as_slice())
+                && all_between(LEAST_POSITION, GREATEST_POSITION, layer.y.as_slice()))
+        }
+        _ => false,
+    }
+}
+
+// Whether all frames of the composition together last longer than a time may be from zero.
+fn is_too_long(comp: &PlainComp) -> bool
+    ensures { result ≡ is_too_long comp.now }
+{
+    i64::from(MOST_SECONDS) * i64::from(comp.frame.scale) < product(comp.frame.value, comp.frames)
+}
+
+// The product of the two.
+fn product(value: i32, count: u32) -> i64
+    ensures { result ≡ (value *ℤ pos count) }
+{
+    i64::from(value) * i64::from(count)
+}
+
+// Whether each time of the layer is near enough to zero.
+fn is_near_layer(layer: &PlainLayer) -> bool
+    ensures { result ≡ list_all is_near (layer_times layer.now) }
+{
+    is_near(layer.start)
+        && is_near(layer.in_point)
+        && is_near_end(layer.out_point)
+        && are_near(layer.opacity.as_slice())
+        && are_near(layer.x.as_slice())
+        && are_near(layer.y.as_slice())
+}
+
+// Whether the end is near enough to zero, where there is one.
+fn is_near_end(out_point: Option<Time>) -> bool
+    ensures { result ≡ list_all is_near (option_to_list out_point) }
+{
+    match out_point {
+        Some(time) => is_near(time),
+        None => true,
+    }
+}
+
+// Whether each keyframe's time is.
+fn are_near(keys: &[Keyframe]) -> bool
+    ensures { result ≡ list_all is_near (key_times keys.now) }
+{
+    keys.iter().all(|key| is_near(key.time))
+}
+
+// Whether it is a solid that may be.
+fn is_solid(most: u32, source: Item) -> bool
+    ensures { result ≡ is_solid most source }
+{
+    match source {
+        Item::Solid {
+            width,
+            height,
+            a,
+            r,
+            g,
+            b,
+        } => { is_size(width, height) && is_colour(most, a, r, g, b) }
+    }
+}
+
+// Whether a layer begins no later than it ends.
+fn begins_in_time(comp: &PlainComp, begin: Time, end: Option<Time>) -> bool
+    ensures { result ≡ begins_in_time comp.now begin end }
+{
+    match end {
+        Some(end) => !comes_before(end, begin),
+        None => is_within_length(begin, comp),
+    }
+}
+
+// Whether a time is no later than all frames of the composition together last.
+fn is_within_length(time: Time, comp: &PlainComp) -> bool
+    ensures { result ≡ is_within_length time comp.now }
+{
+    let begin = i128::from(product(time.value, comp.frame.scale));
+    begin <= i128::from(product(comp.frame.value, comp.frames)) * i128::from(time.scale)
+}
+
+// Whether each value is from the least to the most.
+fn all_between(least: i64, most: i64, keys: &[Keyframe]) -> bool
+    ensures { result ≡ all_between least most keys.now }
+{
+    keys.iter().all(|key| is_between(least, most, key.value))
+}

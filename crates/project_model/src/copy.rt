@@ -1,0 +1,74 @@
+//! What a project says, in plain parts.
+
+ghost use Rattle.std.specs.Prelude.{◌≡◌, ◌≤◌, length, IfOk};
+ghost use Rattle.std.specs.List.{All};
+ghost use Rattle.project_model.specs.Form.{IsFormed, IsFormedComp, IsFormedLayer};
+ghost use Rattle.project_model.specs.Plain.{plain_layer, plain_comp, plain_of};
+ghost use Rattle.project_model.specs.Times.{layer_times, comp_times};
+
+use crate::{Collection, Comp, Layer, PlainComp, PlainLayer, PlainProject, Project};
+use host_io::Memory;
+use param_stream::{Keyframe, Stream};
+use std::alloc::Global;
+
+/// The plain parts of the project.
+pub fn plain_of(alloc: Global, project: &Project) -> Result<PlainProject, Memory>
+    ensures plain { IfOk result (λ plain. plain ≡ plain_of project.now) }
+    ensures formed { IfOk result IsFormed }
+{
+    let mut comps = Vec::new(alloc);
+    for comp in project.comps.as_slice() {
+        comps.push(plain_comp(alloc, comp)?)?;
+    }
+    Ok(PlainProject {
+        depth: u32::from(project.depth),
+        root: project.root,
+        comps: Collection::from_vec(comps),
+    })
+}
+
+// Those of the composition.
+fn plain_comp(alloc: Global, comp: &Comp) -> Result<PlainComp, Memory>
+    ensures plain { IfOk result (λ plain. plain ≡ plain_comp comp.now) }
+    ensures formed { IfOk result IsFormedComp }
+    ensures scaled { IfOk result (λ plain. All (λ time. 1 ≤ time.scale) (comp_times plain)) }
+{
+    let mut layers = Vec::new(alloc);
+    for layer in comp.layers.as_slice() {
+        layers.push(plain_layer(alloc, layer)?)?;
+    }
+    Ok(PlainComp {
+        width: comp.width,
+        height: comp.height,
+        frame: comp.frame,
+        frames: comp.frames,
+        layers: Collection::from_vec(layers),
+    })
+}
+
+// Those of the layer.
+fn plain_layer(alloc: Global, layer: &Layer) -> Result<PlainLayer, Memory>
+    ensures plain { IfOk result (λ plain. plain ≡ plain_layer layer.now) }
+    ensures formed { IfOk result IsFormedLayer }
+    ensures scaled { IfOk result (λ plain. All (λ time. 1 ≤ time.scale) (layer_times plain)) }
+{
+    Ok(PlainLayer {
+        source: layer.source,
+        start: layer.start,
+        in_point: layer.in_point,
+        out_point: layer.out_point,
+        opacity: plain_keys(alloc, &layer.opacity)?,
+        x: plain_keys(alloc, &layer.x)?,
+        y: plain_keys(alloc, &layer.y)?,
+    })
+}
+
+// The keyframes of the stream.
+fn plain_keys(alloc: Global, stream: &Stream) -> Result<Collection<Keyframe>, Memory>
+    ensures plain { IfOk result (λ keys. keys ≡ stream.now.keys) }
+    ensures some { IfOk result (λ keys. 1 ≤ length keys) }
+    ensures scaled { IfOk result (All (λ key. 1 ≤ key.time.scale)) }
+{
+    let keys = stream.keys().to_vec(alloc)?;
+    Ok(Collection::from_vec(keys))
+}

@@ -1,0 +1,25 @@
+ghost use Rattle.std.specs.Prelude.{◌≤◌, length};
+ghost use Rattle.project_model.specs.Bounds.{most_keys, scale_of};
+
+use crate::Item;
+use param_stream::Stream;
+use rational_time::Time;
+
+/// A layer of a composition. It is seen from `in_point` on, and before `out_point`, or to the composition's end
+/// where there is none.
+#[derive(Drop)]
+pub struct Layer {
+    pub source: Item,
+    pub start: Time,
+    pub in_point: Time,
+    pub out_point: Option<Time>,
+    pub opacity: Stream,
+    pub x: Stream,
+    pub y: Stream,
+    pub ghost start_scaled: { 1 ≤ start.scale },
+    pub ghost in_scaled: { 1 ≤ in_point.scale },
+    pub ghost out_scaled: { 1 ≤ scale_of out_point },
+    pub ghost few_opacities: { length opacity.keys ≤ most_keys },
+    pub ghost few_xs: { length x.keys ≤ most_keys },
+    pub ghost few_ys: { length y.keys ≤ most_keys },
+}

@@ -1,0 +1,34 @@
+use crate::{Collection, Item};
+use param_stream::Keyframe;
+use rational_time::Time;
+
+/// A project in plain numbers and lists, as it is written. Nothing is known of the numbers: the rules say which it may have.
+/// `root` is the index of the composition that is rendered, and `depth` the bits of a channel.
+#[derive(Debug, Drop)]
+pub struct PlainProject {
+    pub depth: u32,
+    pub root: u32,
+    pub comps: Collection<PlainComp>,
+}
+
+/// A composition in plain parts: `frames` frames, each `frame` long. Layer 0 is the topmost.
+#[derive(Debug, Drop)]
+pub struct PlainComp {
+    pub width: u32,
+    pub height: u32,
+    pub frame: Time,
+    pub frames: u32,
+    pub layers: Collection<PlainLayer>,
+}
+
+/// A layer in plain parts. A stream is its keyframes.
+#[derive(Debug, Drop)]
+pub struct PlainLayer {
+    pub source: Item,
+    pub start: Time,
+    pub in_point: Time,
+    pub out_point: Option<Time>,
+    pub opacity: Collection<Keyframe>,
+    pub x: Collection<Keyframe>,
+    pub y: Collection<Keyframe>,
+}

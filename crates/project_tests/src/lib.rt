@@ -1,0 +1,11 @@
+//! Tests of times, streams and the rules on projects, through their public calls.
+#![tactic(auto)]
+
+#[cfg(test)]
+mod bases;
+#[cfg(test)]
+mod rules;
+#[cfg(test)]
+mod streams;
+#[cfg(test)]
+mod times;
