@@ -1,5 +1,7 @@
 pub mod PartLemmas
-pub mod SolidLemmas
+pub mod PlaceLemmas
+pub mod OrderLemmas
+pub mod FormedLemmas
 pub mod ReadLemmas
-pub mod FormLemmas
 pub mod WorkedLemmas
+pub mod LawLemmas

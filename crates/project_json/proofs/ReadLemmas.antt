@@ -1,17 +1,22 @@
 -- What bytes are read as.
-use Rattle.std.proofs.Common.{◌≡◌, ℕ, List, Bool, true, false, Option, Some, None, Result, Ok, Err, IfErr, IsErrAnd, if◌then◌else◌, refl, sym, subst, ap, ◌∙◌}
+use Rattle.std.proofs.Common.{◌≡◌, ℕ, List, Bool, true, false, Option, Some, None, Result, Ok, Err, IfErr, if◌then◌else◌, refl, sym, subst, ap, ◌∙◌}
 use Rattle.std.specs.Str.{IsUtf8, is_utf8}
 use Rattle.std.proofs.lemmas.Str.{IsUtf8-from_is_utf8, is_utf8-from_IsUtf8}
 use Rattle.serde_json.specs.Data.{Data}
 use Rattle.serde_json.specs.Read.{read}
+use Rattle.project_model.specs.Broken.{breach_of}
+use Rattle.project_model.specs.declared.place.Breach.{Breach}
+use Rattle.project_model.specs.Checked.{Refuses}
+use Rattle.project_model.specs.Places.{first_of_two}
+use Rattle.project_model.specs.declared.passing.CheckError.{CheckError}
+use Rattle.project_model.specs.declared.passing.CheckError.TheVariants.{RuleBroken, Memory as NoRoom}
+use Rattle.project_model.specs.declared.project.Project.{Project}
+use Rattle.project_model.specs.declared.plain.PlainProject.{PlainProject}
 use Rattle.project_json.specs.Json.{json_of}
-use Rattle.project_json.specs.Solids.{project_in}
-use Rattle.project_json.specs.Reading.{project_of, checked, reading_of, IsRefusal}
-use Rattle.project_json.specs.Gives.{Gives, error_of}
-use Rattle.project_json.specs.declared.unread.Unread.{Unread}
-use Rattle.project_json.specs.declared.unread.Unread.TheVariants.{Refused, Memory}
+use Rattle.project_json.specs.FormRules.{form_breach}
+use Rattle.project_json.specs.PlainData.{plain_of_data}
+use Rattle.project_json.specs.Reading.{project_of, checked, judged, error_of, error_from, data_breach, verdict, IsRefusal}
 use Rattle.project_json.specs.declared.error.ProjectError.{ProjectError}
-use Rattle.project_json.specs.declared.project.Project.{Project}
 use Rattle.project_json.specs.declared.error.ProjectError.TheVariants.{NotJson, Rule}
 
 pub json_of-text : (bytes : List ℕ) → IsUtf8 bytes → json_of bytes ≡ read bytes
@@ -29,17 +34,42 @@ json_of_none bytes h = none_where (is_utf8 bytes) (read bytes) (λ text. h (IsUt
 pub project_of-not_json : (bytes : List ℕ) → json_of bytes ≡ None → project_of bytes ≡ Err NotJson
 project_of-not_json bytes e = ap checked e
 
-pub project_of-refused : (bytes : List ℕ) (d : Data) → json_of bytes ≡ Some d → project_in d ≡ None → project_of bytes ≡ Err (Rule 0 None None)
-project_of-refused bytes d e none = ap checked e ∙ ap reading_of none
+-- what both kinds of rules say of a value
+pub project_of-both : (bytes : List ℕ) (d : Data) (form numbers : Option Breach) → json_of bytes ≡ Some d → form_breach d ≡ form
+    → breach_of (plain_of_data d) ≡ numbers → project_of bytes ≡ judged (first_of_two form numbers) (plain_of_data d)
+project_of-both bytes d form numbers json f n =
+    ap checked json ∙ ap (λ o. judged (first_of_two o (breach_of (plain_of_data d))) (plain_of_data d)) f
+    ∙ ap (λ o. judged (first_of_two form o) (plain_of_data d)) n
 
-pub project_of-read : (bytes : List ℕ) (d : Data) (p : Project) → json_of bytes ≡ Some d → project_in d ≡ Some p → project_of bytes ≡ Ok p
-project_of-read bytes d p e some = ap checked e ∙ ap reading_of some
+-- a form that is broken
+pub form_refusal : (bytes : List ℕ) (d : Data) (e : ProjectError) → json_of bytes ≡ Some d → verdict (form_breach d) ≡ Err e → IsRefusal e (project_of bytes)
+form_refusal bytes d e json v = by_form (form_breach d) refl v
+  where
+    by_form : (form : Option Breach) → form_breach d ≡ form → verdict form ≡ Err e → IsRefusal e (project_of bytes)
+    by_form None f v = absurd cc
+    by_form (Some b) f v =
+        let same : error_of b ≡ e = cc in
+        subst (λ e. IsRefusal e (project_of bytes)) same (project_of-both bytes d (Some b) (breach_of (plain_of_data d)) json f refl)
 
--- an answer by way of `Unread`
-pub refusal : (r : Result Project ProjectError) (u : Unread) (bytes : List ℕ) (d : Data) → IsErrAnd r (λ e. e ≡ error_of u) → json_of bytes ≡ Some d
-    → Gives {A = Project} (project_in d) (Err u) → IfErr r (λ e. IsRefusal e (project_of bytes))
-refusal (Ok p) u bytes d is json reading = absurd is
-refusal (Err e) Refused bytes d is json reading =
-    let P : ProjectError → Type 0 = λ e. IsRefusal e (project_of bytes) in subst P (sym is) (project_of-refused bytes d json reading)
-refusal (Err e) Memory bytes d is json reading =
-    let P : ProjectError → Type 0 = λ e. IsRefusal e (project_of bytes) in subst P (sym is) tt
+-- numbers that break a rule, or want of memory
+pub number_refusal : (bytes : List ℕ) (d : Data) (refused : CheckError) → json_of bytes ≡ Some d → form_breach d ≡ None
+    → Refuses refused (breach_of (plain_of_data d)) → IsRefusal (error_from refused) (project_of bytes)
+number_refusal bytes d NoRoom json f r = tt
+number_refusal bytes d (RuleBroken rule comp layer) json f r = by_numbers (breach_of (plain_of_data d)) refl r
+  where
+    by_numbers : (numbers : Option Breach) → breach_of (plain_of_data d) ≡ numbers → Refuses (RuleBroken rule comp layer) numbers
+        → project_of bytes ≡ Err (Rule rule comp layer)
+    by_numbers None n r = absurd r
+    by_numbers (Some b) n r = project_of-both bytes d None (Some b) json f n ∙ ap (λ e. Err (error_from e)) (sym r)
+
+pub project_of-read : (bytes : List ℕ) (d : Data) → json_of bytes ≡ Some d → form_breach d ≡ None → breach_of (plain_of_data d) ≡ None
+    → project_of bytes ≡ Ok (plain_of_data d)
+project_of-read bytes d json f n = project_of-both bytes d None None json f n
+
+pub refused_as : (bytes : List ℕ) (r : Result Project ProjectError) (e : ProjectError) → r ≡ Err e → IsRefusal e (project_of bytes)
+    → IfErr r (λ e. IsRefusal e (project_of bytes))
+refused_as bytes r e is refusal =
+    let P : Result Project ProjectError → Type 0 = λ r. IfErr r (λ e. IsRefusal e (project_of bytes)) in subst P (sym is) refusal
+
+pub project_of-json : (bytes : List ℕ) (d : Data) (p : PlainProject) → json_of bytes ≡ Some d → data_breach d ≡ None → plain_of_data d ≡ p → project_of bytes ≡ Ok p
+project_of-json bytes d p json none same = ap checked json ∙ ap (λ o. judged o (plain_of_data d)) none ∙ ap Ok same

@@ -1,24 +1,21 @@
 -- The worked example, computed.
-use Rattle.std.proofs.Common.{◌≡◌, ℕ, zero, suc, ◌<◌, List, [], ◌∷◌, Bool, true, false, ◌&&◌, nat_lt, Some, refl, ◌∙◌, arith}
+use Rattle.std.proofs.Common.{◌≡◌, ℕ, zero, suc, ◌<◌, List, [], ◌∷◌, Bool, true, ◌&&◌, nat_lt, Some, None, refl, ◌∙◌, arith}
 use Rattle.std.proofs.lemmas.Bool.Decides.{nat_tests}
 use Rattle.std.proofs.lemmas.Str.{IsUtf8-from_ascii}
 use Rattle.std.specs.Str.{IsUtf8, IsAscii}
 use Rattle.serde_json.proofs.OnLiterals.{serde_json_on_literals}
 use Rattle.serde_json.specs.Data.{Data}
 use Rattle.serde_json.specs.Read.{read}
-use Rattle.project_json.specs.Parts.{object_of, number_in, each_of, array_of}
-use Rattle.project_json.specs.Solids.{size_of, colour_of, solid_of, source_of, layer_of, duration_of, run_of, size_in, run_in, comp_of, head_in, only_item, project_in}
-use Rattle.project_json.specs.Worked.{two_pixel_text, two_pixel_project, TwoPixelsAreRead}
-use Rattle.project_json.proofs.ReadLemmas.{json_of-text, project_of-read}
+use Rattle.project_json.specs.Reading.{data_breach}
+use Rattle.project_json.specs.PlainData.{plain_of_data}
+use Rattle.project_json.specs.Worked.{two_pixel_text, TwoPixelsAreRead}
+use Rattle.project_model.specs.Worked.{two_pixel_project}
+use Rattle.project_json.proofs.PlaceLemmas.{both}
+use Rattle.project_json.proofs.ReadLemmas.{json_of-text, project_of-json}
 
 abbrev all_ascii : List ℕ → Bool
 all_ascii [] = true
 all_ascii (b ∷ bs) = nat_lt b 128 && all_ascii bs
-
-both : (a b : Bool) → (a && b) ≡ true → (a ≡ true) × (b ≡ true)
-both true true e = (refl, refl)
-both true false e = absurd cc
-both false b e = absurd cc
 
 small : (b : ℕ) → nat_lt b 128 ≡ true → b < 128
 small b e = grind (arith, nat_tests)
@@ -31,9 +28,10 @@ ascii (b ∷ bs) e (suc i) = ascii bs (both (nat_lt b 128) (all_ascii bs) e).1 i
 is_text : IsUtf8 two_pixel_text
 is_text = IsUtf8-from_ascii two_pixel_text (ascii two_pixel_text refl)
 
-computed : (d : Data) × (read two_pixel_text ≡ Some d) × (project_in d ≡ Some two_pixel_project)
-unfolding serde_json_on_literals object_of number_in each_of array_of size_of colour_of solid_of source_of layer_of duration_of run_of size_in run_in comp_of head_in only_item project_in
-computed = (_, refl, refl)
+computed : (d : Data) × (read two_pixel_text ≡ Some d) × (data_breach d ≡ None) × (plain_of_data d ≡ two_pixel_project)
+unfolding serde_json_on_literals
+computed = (_, refl, refl, refl)
 
 pub two_pixels : TwoPixelsAreRead
-two_pixels = project_of-read two_pixel_text computed.0 two_pixel_project (json_of-text two_pixel_text is_text ∙ computed.1) computed.2
+two_pixels =
+    project_of-json two_pixel_text computed.0 two_pixel_project (json_of-text two_pixel_text is_text ∙ computed.1) computed.2 computed.3

@@ -1,7 +1,10 @@
 pub mod Json
 pub mod Parts
-pub mod Solids
-pub mod Gives
-pub mod Form
+pub mod Reads
+pub mod PlainData
+pub mod FormRules
+pub mod Counts
+pub mod Sought
 pub mod Reading
+pub mod Laws
 pub mod Worked

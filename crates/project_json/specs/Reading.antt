@@ -1,27 +1,49 @@
--- What a project's bytes are read as, and when a reading is refused.
+-- What a project's bytes are read as: they are no JSON, or they break a rule, or they are a project in plain parts.
 use Rattle.std.specs.Prelude.{◌≡◌, ℕ, List, Option, Some, None, Result, Ok, Err}
 use Rattle.serde_json.specs.Data.{Data}
+use Rattle.project_model.specs.Broken.{breach_of}
+use Rattle.project_model.specs.declared.place.Breach.{Breach}
+use Rattle.project_model.specs.Checked.{comp_of, layer_of}
+use Rattle.project_model.specs.Places.{first_of_two}
+use Rattle.project_model.specs.declared.plain.PlainProject.{PlainProject}
+use Rattle.project_model.specs.declared.passing.CheckError.{CheckError}
+use Rattle.project_model.specs.declared.passing.CheckError.TheVariants.{RuleBroken, Memory as NoRoom}
 use Rattle.project_json.specs.Json.{json_of}
-use Rattle.project_json.specs.Solids.{project_in}
-use Rattle.project_json.specs.declared.project.Project.{Project}
+use Rattle.project_json.specs.FormRules.{form_breach}
+use Rattle.project_json.specs.PlainData.{plain_of_data}
 use Rattle.project_json.specs.declared.error.ProjectError.{ProjectError}
 use Rattle.project_json.specs.declared.error.ProjectError.TheVariants.{NotJson, Rule, Memory}
 
--- rule 0: the value is of the form that is read today; it has no place
-abbrev pub reading_of : Option Project → Result Project ProjectError
-reading_of None = Err (Rule 0 None None)
-reading_of (Some p) = Ok p
+-- the broken rule with the least number, at its first place
+abbrev pub data_breach : Data → Option Breach
+data_breach d = first_of_two (form_breach d) (breach_of (plain_of_data d))
 
--- no JSON, or a broken rule, or the project
-abbrev pub checked : Option Data → Result Project ProjectError
+abbrev pub error_of : Breach → ProjectError
+error_of breach = Rule breach.number (comp_of breach.place) (layer_of breach.place)
+
+-- the error for one that the rules on numbers give
+abbrev pub error_from : CheckError → ProjectError
+error_from (RuleBroken rule comp layer) = Rule rule comp layer
+error_from NoRoom = Memory
+
+-- nothing is broken, or the error of what is
+abbrev pub verdict : Option Breach → Result (Unit {0}) ProjectError
+verdict None = Ok tt
+verdict (Some breach) = Err (error_of breach)
+
+abbrev pub judged : Option Breach → PlainProject → Result PlainProject ProjectError
+judged None project = Ok project
+judged (Some breach) project = Err (error_of breach)
+
+abbrev pub checked : Option Data → Result PlainProject ProjectError
 checked None = Err NotJson
-checked (Some d) = reading_of (project_in d)
+checked (Some d) = judged (data_breach d) (plain_of_data d)
 
-abbrev pub project_of : List ℕ → Result Project ProjectError
+abbrev pub project_of : List ℕ → Result PlainProject ProjectError
 project_of bytes = checked (json_of bytes)
 
 -- an answer other than a project is the one that reading gives, but for want of memory
-abbrev pub IsRefusal : ProjectError → Result Project ProjectError → Type 0
+abbrev pub IsRefusal : ProjectError → Result PlainProject ProjectError → Type 0
 IsRefusal NotJson reading = reading ≡ Err NotJson
 IsRefusal (Rule number comp layer) reading = reading ≡ Err (Rule number comp layer)
 IsRefusal Memory reading = Unit {0}

@@ -1,18 +1,17 @@
-//! The project: its types, and how it is read from JSON.
+//! Reading a project from its JSON.
 #![tactic(auto)]
 
-mod collection;
-mod comps;
+mod anywhere;
 mod error;
+mod form;
+mod laws;
 mod parts;
-mod project;
+mod places;
+mod plain;
 mod read;
-mod solids;
-#[cfg(test)]
-mod tests;
-mod unread;
+mod reads;
+mod shapes;
 
-pub use collection::Collection;
 pub use error::ProjectError;
-pub use project::{Comp, Item, Layer, Project, Time};
+pub use laws::{project_keeps_rules, refusal_is_least};
 pub use read::{read_project, two_pixels_are_read};

@@ -1,12 +1,15 @@
 ghost use Rattle.std.specs.Prelude.{◌≡◌, Some, IfOk, IfErr};
 ghost use Rattle.serde_json.specs.View.{view};
+ghost use Rattle.project_model.specs.Plain.{plain_of};
+ghost use Rattle.project_model.specs.Sound.{IsSound};
 ghost use Rattle.project_json.specs.Json.{json_of};
 ghost use Rattle.project_json.specs.Reading.{project_of, IsRefusal};
-ghost use Rattle.project_json.specs.Form.{IsSolidsProject};
 ghost use Rattle.project_json.specs.Worked.{TwoPixelsAreRead};
 
-use crate::comps::project_in;
-use crate::{Project, ProjectError};
+use crate::ProjectError;
+use crate::places::check_form;
+use crate::plain::plain_project;
+use project_model::Project;
 use serde_json::Value;
 use std::alloc::Global;
 
@@ -27,32 +30,51 @@ fn value_of(alloc: Global, bytes: &[u8]) -> Result<Value, ProjectError>
     }
 }
 
-/// Reads a project from its JSON, whose form is this project's own.
+/// Reads a project from its JSON, whose form and rules are this project's own.
 ///
-/// It is an object of the names `version`, `depth`, `root` and `comps`. The first three are 1, 8 and
-/// 0, and `comps` is an array of one composition: an object of the names `width`, `height`, `frame`,
-/// `frames` and `layers`.
+/// It is an object of the names `version`, `depth`, `root`, `clips` and `comps`. `version` is 1, `depth` the bits of a channel,
+/// 8 or 16, `root` the index of the composition that is rendered, and `comps` the array of compositions.
 ///
-/// - `width` and `height` are from 1 to 4,096, and their product is at most 8,847,360.
-/// - `frame` is the length of a frame, `[value, scale]`, both from 1 to 2,147,483,647.
-/// - `frames` is from 1 to 65,536, and all frames last at most 36,000 seconds.
-/// - `layers` is an array of at most 128 layers, the topmost first. A layer is
-///   `{"source":{"solid":[width,height,alpha,red,green,blue]}}`, its width and height bounded as the
-///   composition's, alpha from 0 to 255, and each colour from 0 to alpha.
+/// - A composition is an object of the names `width`, `height`, `frame`, `frames` and `layers`: its sides, the length of a frame
+///   as a time, how many frames it has, and the array of its layers, the topmost first.
+/// - A layer is an object with `source`, `{"solid":[width,height,alpha,red,green,blue]}`, and no names but `start`, `in`,
+///   `out`, `mode`, `matte`, `opacity`, `x`, `y` and `effects`. `start` and `in` are times, zero seconds where they are absent.
+///   `out` is a time, the composition's end where it is absent. `opacity`, `x` and `y` are streams, 10,000, 0 and 0 where they
+///   are absent.
+/// - A time is `[value, scale]`, which is value / scale seconds. A stream is a number, which is its value at every time, or an
+///   array of keyframes `[value, time, kind]`, whose kind is `"hold"`, `"linear"` or `"ease"`.
+/// - Of a name that stands twice in an object the last value counts.
 ///
-/// An object has no other names, and of a name that stands twice the last value counts. Every number
-/// is written whole, with no fraction, exponent or minus sign.
+/// A project that breaks a rule is refused by the broken rule with the least number, at its first place: the project outside
+/// its compositions, then each composition, first outside its layers, and then its layers in order. Each rule speaks of what
+/// those before it have let through.
 ///
-/// The error is `NotJson` where the bytes are no UTF-8 or have no reading as JSON, which arrays and
-/// objects nested more than 127 deep have not; `Rule` with the number 0 and no place where they are
-/// JSON of another form; and `Memory` where memory runs out.
+/// - 0: no object, at any depth, has a name `clips`, `clip`, `comp`, `mode`, `matte` or `effects`; `depth` is not 16; there is
+///   at most one composition. These parts are not built yet.
+/// - 1: each number, at any depth, is a whole number from -2^63 to 2^63-1, written without fraction or exponent.
+/// - 2: the value is an object of no names but the five.
+/// - 3, 4: `version` is there and 1; `depth` is there and 8 or 16.
+/// - 6: `comps` is there and an array of 1 to 64 objects (place: the project), each of exactly the five names (place: the
+///   composition).
+/// - 7: `layers` is an array of at most 128 objects (place: the composition), each with `source` and no names but the ten.
+/// - 8: there are at most 1,024 layers in all.
+/// - 9: `source` is an object of exactly one name, `solid`, `clip` or `comp`.
+/// - 14: a stream is a number, or an array of 1 to 4,096 keyframes, each an array of a number, a time and a kind.
+/// - 15: a time is an array of two numbers, from -2147483648 to 2147483647 and from 1 to 4294967295.
+/// - From 16 on: see [`project_model::Rule`].
+///
+/// The error is `NotJson` where the bytes are no UTF-8 or have no reading as JSON, which arrays and objects nested more than 127
+/// deep have not; `Rule` with the rule's number, and the indices of its place, where one is broken; and `Memory` where memory
+/// runs out.
 pub fn read_project(alloc: Global, bytes: &[u8]) -> Result<Project, ProjectError>
-    ensures project { IfOk result (λ p. project_of bytes.now ≡ Ok p) }
-    ensures form { IfOk result IsSolidsProject }
+    ensures project { IfOk result (λ p. project_of bytes.now ≡ Ok (plain_of p)) }
+    ensures sound { IfOk result IsSound }
     ensures refused { IfErr result (λ e. IsRefusal e (project_of bytes.now)) }
 {
     let value = value_of(alloc, bytes)?;
-    Ok(project_in(alloc, &value)?)
+    check_form(&value)?;
+    let plain = plain_project(alloc, &value)?;
+    Ok(Project::of_plain(alloc, plain)?)
 }
 
 /// One composition of two pixels with one solid is read as this project's own form says.

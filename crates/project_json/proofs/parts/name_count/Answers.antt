@@ -1,0 +1,14 @@
+use Rattle.std.proofs.Common.{◌≡◌, Some, option_map, length, sym, ap, ◌∙◌}
+use Rattle.serde_json.specs.Find.{as_object}
+use Rattle.serde_json.specs.View.{view, members_view}
+use Rattle.project_json.specs.Parts.{names_in}
+use Rattle.project_json.proofs.PartLemmas.{length-names, is_object_of}
+use Rattle.project_json.proofs.parts.name_count.Goals as goal
+
+pub returns-in-Some : goal.returns-in-Some
+returns-in-Some c =
+    let members = c.in-Some.members.now.entries in
+    let is : as_object (view c.args.value.now) ≡ Some (members_view members) =
+    sym c.as_object.ensures ∙ ap (option_map (λ m. members_view m.now.entries)) c.in-Some.is in
+    c.len.ensures.len ∙ sym (length-names members)
+    ∙ sym (ap (λ d. length (names_in d)) (is_object_of (view c.args.value.now) (members_view members) is))

@@ -1,0 +1,85 @@
+-- What the parts of a project are read as: times, keyframes and sources.
+use Rattle.std.specs.Prelude.{ℕ, ◌&&◌, ℤ, pos, negsuc, List, [], ◌∷◌, map, codes, if◌then◌else◌, Option, Some, None, option_and_then, option_map, unwrap_or}
+use Rattle.std.specs.Str.{bytes_eq}
+use Rattle.serde_json.specs.Data.{Data}
+use Rattle.serde_json.specs.Find.{get, as_str}
+use Rattle.rational_time.specs.declared.time.Time.{Time}
+use Rattle.param_stream.specs.declared.key.Ease.{Ease}
+use Rattle.param_stream.specs.declared.key.Ease.TheVariants.{Hold, Linear, Smooth}
+use Rattle.param_stream.specs.declared.key.Keyframe.{Keyframe}
+use Rattle.project_model.specs.Bounds.{is_among, is_between}
+use Rattle.project_model.specs.declared.item.Item.{Item}
+use Rattle.project_model.specs.declared.item.Item.TheVariants.{Solid}
+use Rattle.project_json.specs.Parts.{items_in, is_number, whole_in, count_in}
+
+abbrev pub zero_time : Time
+zero_time = record { value = pos 0; scale = 1 }
+
+abbrev pub time_from : Option ℤ → Option ℕ → Option Time
+time_from (Some value) (Some scale) =
+    if is_between (negsuc 2147483647) (pos 2147483647) value && is_among 1 4294967295 scale
+    then Some record { value = value; scale = scale }
+    else None
+time_from _ _ = None
+
+-- two items
+abbrev pub time_from_items : List Data → Option Time
+time_from_items (value ∷ scale ∷ []) = time_from (whole_in value) (count_in scale)
+time_from_items _ = None
+
+-- `[value, scale]`
+abbrev pub time_in : Data → Option Time
+time_in d = time_from_items (items_in d)
+
+abbrev pub kind_named : List ℕ → Option Ease
+kind_named name =
+    if bytes_eq name (codes "hold") then Some Hold
+    else (if bytes_eq name (codes "linear") then Some Linear
+    else (if bytes_eq name (codes "ease") then Some Smooth else None))
+
+-- `"hold"`, `"linear"` or `"ease"`
+abbrev pub kind_in : Data → Option Ease
+kind_in d = option_and_then kind_named (as_str d)
+
+-- the value at every tick
+abbrev pub constant_key : ℤ → Keyframe
+constant_key value = record { time = zero_time; value = value; kind = Hold }
+
+-- three items; one that is not of its kind counts as 0, as zero seconds or as hold
+abbrev pub key_from_items : List Data → Keyframe
+key_from_items (value ∷ time ∷ kind ∷ []) = record {
+  time = unwrap_or (time_in time) zero_time;
+  value = unwrap_or (whole_in value) (pos 0);
+  kind = unwrap_or (kind_in kind) Hold;
+}
+key_from_items _ = constant_key (pos 0)
+
+-- `[value, time, kind]`
+abbrev pub key_in : Data → Keyframe
+key_in d = key_from_items (items_in d)
+
+-- a number is a constant stream, and an array is its keyframes
+abbrev pub keys_in : Data → List Keyframe
+keys_in d = if is_number d then constant_key (unwrap_or (whole_in d) (pos 0)) ∷ [] else map key_in (items_in d)
+
+-- a solid that no rule accepts
+abbrev pub no_solid : Item
+no_solid = Solid 0 0 0 0 0 0
+
+abbrev pub solid_from : Option ℕ → Option ℕ → Option ℕ → Option ℕ → Option ℕ → Option ℕ → Option Item
+solid_from (Some width) (Some height) (Some a) (Some r) (Some g) (Some b) = Some (Solid width height a r g b)
+solid_from _ _ _ _ _ _ = None
+
+-- six whole numbers from 0 to 2^32-1
+abbrev pub solid_from_items : List Data → Option Item
+solid_from_items (w ∷ h ∷ a ∷ r ∷ g ∷ b ∷ []) =
+    solid_from (count_in w) (count_in h) (count_in a) (count_in r) (count_in g) (count_in b)
+solid_from_items _ = None
+
+-- `[width, height, alpha, red, green, blue]`, or a solid that no rule accepts
+abbrev pub solid_in : Data → Item
+solid_in d = unwrap_or (solid_from_items (items_in d)) no_solid
+
+-- `{"solid": ..}`
+abbrev pub source_in : Data → Item
+source_in d = unwrap_or (option_map solid_in (get (codes "solid") d)) no_solid

@@ -1,0 +1,198 @@
+ghost use Rattle.std.specs.Prelude.{◌≡◌, ◌&&◌, [], ◌∷◌, codes, nat_lt, sum_by, length, map, IsTrue};
+ghost use Rattle.std.specs.List.{list_all};
+ghost use Rattle.serde_json.specs.Find.{get};
+ghost use Rattle.serde_json.specs.View.{view};
+ghost use Rattle.project_model.specs.Bounds.{most_layers_in_all};
+ghost use Rattle.project_json.specs.Parts.{has_only, has_each, is_there, where_there, is_list_of_objects, is_the_number};
+ghost use Rattle.project_json.specs.PlainData.{items_of};
+ghost use Rattle.project_json.specs.Counts.{is_in_comps, is_in_layers};
+ghost use Rattle.project_json.specs.FormRules.{number_of, breaks_project, breaks_comp, breaks_layer, layer_names, stream_names, time_names, is_stream, is_time, key_has_time, is_source};
+ghost use Rattle.project_json.specs.declared.form.FormRule.TheVariants.{Unbuilt};
+
+use crate::anywhere::{Sought, is_anywhere};
+use crate::parts::{has_each, has_exactly, has_only, is_list_of_objects, is_the_number, items_of};
+use crate::shapes::{has_time, is_source, keys_have_times, may_be_stream, may_be_time};
+use serde_json::Value;
+
+/// The most compositions of a project.
+const MOST_COMPS: usize = project_model::MOST_COMPS as usize;
+
+/// The most layers of a composition.
+const MOST_LAYERS: usize = project_model::MOST_LAYERS as usize;
+
+/// The most layers of a project.
+const MOST_LAYERS_IN_ALL: usize = project_model::MOST_LAYERS_IN_ALL as usize;
+
+/// The rules on a project's form, by their numbers, before any on its numbers. They are this project's own.
+#[derive(Clone, Copy, Debug, PartialEq, Eq)]
+pub(crate) enum FormRule {
+    /// 0: no part that is not built yet: clips, nested compositions, modes, mattes, effects, depth 16, a second composition.
+    Unbuilt,
+    /// 1: every number, at any depth, is a whole number from -2^63 to 2^63-1, written without fraction or exponent.
+    Whole,
+    /// 2: the value is an object with no names but `version`, `depth`, `root`, `clips` and `comps`.
+    Names,
+    /// 3: `version` is 1.
+    Version,
+    /// 4: `depth` is 8 or 16.
+    Depth,
+    /// 6: `comps` is an array of 1 to 64 objects, each with exactly its five names.
+    Comps,
+    /// 7: `layers` of each composition is an array of at most 128 objects, each with `source` and no names but a layer's.
+    Layers,
+    /// 8: there are at most 1,024 layers in all.
+    LayerCount,
+    /// 9: `source` is an object with exactly one name: `solid`, `clip` or `comp`.
+    Source,
+    /// 14: every stream is a number, or an array of 1 to 4,096 keyframes `[number, time, kind]`.
+    Streams,
+    /// 15: every time is `[value, scale]`, the value from -2147483648 to 2147483647, the scale from 1 to 4294967295.
+    Times,
+}
+
+impl FormRule {
+    /// The rule's number.
+    pub(crate) fn number(self) -> u8
+        ensures { result ≡ number_of self }
+    {
+        match self {
+            FormRule::Unbuilt => 0,
+            FormRule::Whole => 1,
+            FormRule::Names => 2,
+            FormRule::Version => 3,
+            FormRule::Depth => 4,
+            FormRule::Comps => 6,
+            FormRule::Layers => 7,
+            FormRule::LayerCount => 8,
+            FormRule::Source => 9,
+            FormRule::Streams => 14,
+            FormRule::Times => 15,
+        }
+    }
+
+    /// What breaks it in the project outside its compositions.
+    pub(crate) fn is_broken_in_project(self, top: &Value) -> bool
+        ensures { result ≡ breaks_project (view top.now) self }
+    {
+        match self {
+            FormRule::Unbuilt => is_unbuilt(top),
+            FormRule::Whole => is_anywhere(Sought::NotWhole, top),
+            FormRule::Names => !has_only(top, &["version", "depth", "root", "clips", "comps"]),
+            FormRule::Version => !is_number_of(top, "version", 1),
+            FormRule::Depth => !is_number_of(top, "depth", 8) && !is_number_of(top, "depth", 16),
+            FormRule::Comps => !has_objects(top, "comps", 1, MOST_COMPS),
+            FormRule::LayerCount => has_too_many_layers(items_of(top, "comps")),
+            _ => false,
+        }
+    }
+
+    /// What breaks it in a composition outside its layers.
+    pub(crate) fn is_broken_in_comp(self, comp: &Value) -> bool
+        ensures broken { result ≡ breaks_comp self (view comp.now) }
+        ensures looked { IsTrue result → IsTrue (is_in_comps self) }
+    {
+        match self {
+            FormRule::Comps => !has_exactly(
+                comp,
+                &["width", "height", "frame", "frames", "layers"],
+            ),
+            FormRule::Layers => !has_objects(comp, "layers", 0, MOST_LAYERS),
+            FormRule::Times => !has_time(comp, "frame"),
+            _ => false,
+        }
+    }
+
+    /// What breaks it in a layer.
+    pub(crate) fn is_broken_in_layer(self, layer: &Value) -> bool
+        ensures broken { result ≡ breaks_layer self (view layer.now) }
+        ensures looked { IsTrue result → IsTrue (is_in_layers self) }
+    {
+        match self {
+            FormRule::Layers => !has_layer_names(layer),
+            FormRule::Source => !has_source(layer),
+            FormRule::Streams => !has_streams(layer),
+            FormRule::Times => !has_times(layer),
+            _ => false,
+        }
+    }
+}
+
+/// A part that is not built yet.
+fn is_unbuilt(top: &Value) -> bool
+    ensures { result ≡ breaks_project (view top.now) Unbuilt }
+{
+    is_anywhere(Sought::Unbuilt, top)
+        || is_number_of(top, "depth", 16)
+        || items_of(top, "comps").len() > 1
+}
+
+/// The member of that name is there, and is this number.
+fn is_number_of(value: &Value, name: &str, n: u64) -> bool
+    ensures { result ≡ is_there (is_the_number n) (get name.now (view value.now)) }
+{
+    match value.get(name) {
+        Some(number) => is_the_number(number, n),
+        None => false,
+    }
+}
+
+/// The member of that name is there, and is an array of at least and at most so many objects.
+fn has_objects(value: &Value, name: &str, least: usize, most: usize) -> bool
+    ensures { result ≡ is_there (is_list_of_objects least most) (get name.now (view value.now)) }
+{
+    match value.get(name) {
+        Some(list) => is_list_of_objects(list, least, most),
+        None => false,
+    }
+}
+
+fn has_layer_names(layer: &Value) -> bool
+    ensures { result ≡ (has_each (codes "source" ∷ []) (view layer.now) && has_only layer_names (view layer.now)) }
+{
+    let names = [
+        "source", "start", "in", "out", "mode", "matte", "opacity", "x", "y", "effects",
+    ];
+    has_each(layer, &["source"]) && has_only(layer, &names)
+}
+
+fn has_source(layer: &Value) -> bool
+    ensures { result ≡ is_there is_source (get (codes "source") (view layer.now)) }
+{
+    match layer.get("source") {
+        Some(source) => is_source(source),
+        None => false,
+    }
+}
+
+fn has_streams(layer: &Value) -> bool
+    ensures { result ≡ list_all (λ name. where_there is_stream (get name (view layer.now))) stream_names }
+{
+    may_be_stream(layer, "opacity") && may_be_stream(layer, "x") && may_be_stream(layer, "y")
+}
+
+fn has_times(layer: &Value) -> bool
+    ensures { result
+        ≡ (list_all (λ name. where_there is_time (get name (view layer.now))) time_names
+        && list_all (λ name. list_all key_has_time (items_of name (view layer.now))) stream_names) }
+{
+    may_be_time(layer, "start")
+        && may_be_time(layer, "in")
+        && may_be_time(layer, "out")
+        && keys_have_times(layer, "opacity")
+        && keys_have_times(layer, "x")
+        && keys_have_times(layer, "y")
+}
+
+/// More than 1,024 layers in all.
+fn has_too_many_layers(comps: &[Value]) -> bool
+    ensures { result ≡ nat_lt most_layers_in_all (sum_by (λ comp. length (items_of (codes "layers") comp)) (map view comps.now)) }
+{
+    let mut count = 0;
+    for comp in comps {
+        count += items_of(comp, "layers").len();
+        if count > MOST_LAYERS_IN_ALL {
+            return true;
+        }
+    }
+    false
+}

@@ -1,0 +1,159 @@
+ghost use Rattle.std.specs.Prelude.{◌≡◌, ℤ, ◌∷◌, [], map, IfOk, option_and_then, option_map, unwrap_or, codes};
+ghost use Rattle.serde_json.specs.Find.{get};
+ghost use Rattle.serde_json.specs.View.{view};
+ghost use Rattle.project_json.specs.Reads.{key_in, keys_in, time_in, constant_key, source_in, no_solid};
+ghost use Rattle.project_json.specs.PlainData.{count_of, time_of, keys_of, plain_layer_of, plain_comp_of, plain_of_data};
+
+use crate::parts::{count_in, items_in, items_of, whole_in};
+use crate::reads::{NO_SOLID, ZERO_TIME, constant_key, key_in, source_in, time_in};
+use host_io::Memory;
+use param_stream::Keyframe;
+use project_model::{Collection, FULL_OPACITY, Item, PlainComp, PlainLayer, PlainProject};
+use rational_time::Time;
+use serde_json::Value;
+use std::alloc::Global;
+
+/// An index that names no composition.
+const NO_INDEX: u32 = 4_294_967_295;
+
+/// The count in the member of that name.
+fn count_of(value: &Value, name: &str, other: u32) -> u32
+    ensures { result ≡ count_of other name.now (view value.now) }
+{
+    match value.get(name) {
+        Some(count) => count_in(count).unwrap_or(other),
+        None => other,
+    }
+}
+
+fn time_of(value: &Value, name: &str) -> Time
+    ensures { result ≡ time_of name.now (view value.now) }
+{
+    match value.get(name) {
+        Some(time) => time_in(time).unwrap_or(ZERO_TIME),
+        None => ZERO_TIME,
+    }
+}
+
+/// The time in the member of that name, where it is there.
+fn end_of(value: &Value, name: &str) -> Option<Time>
+    ensures { result ≡ option_and_then time_in (get name.now (view value.now)) }
+{
+    match value.get(name) {
+        Some(time) => time_in(time),
+        None => None,
+    }
+}
+
+fn each_key(alloc: Global, items: &[Value]) -> Result<Vec<Keyframe>, Memory>
+    ensures { IfOk result (λ keys. keys.items ≡ map (λ item. key_in (view item)) items.now) }
+{
+    let mut keys = Vec::new(alloc);
+    for item in items {
+        keys.push(key_in(item))?;
+    }
+    Ok(keys)
+}
+
+/// A number is a constant stream, and an array is its keyframes.
+fn keys_in(alloc: Global, value: &Value) -> Result<Collection<Keyframe>, Memory>
+    ensures { IfOk result (λ keys. keys ≡ keys_in (view value.now)) }
+{
+    if value.is_number() {
+        one_key(alloc, whole_in(value).unwrap_or(0))
+    } else {
+        Ok(Collection::from_vec(each_key(alloc, items_in(value))?))
+    }
+}
+
+fn one_key(alloc: Global, value: i64) -> Result<Collection<Keyframe>, Memory>
+    ensures { IfOk result (λ keys. keys ≡ constant_key value ∷ []) }
+{
+    let mut keys = Vec::new(alloc);
+    keys.push(constant_key(value))?;
+    Ok(Collection::from_vec(keys))
+}
+
+/// The stream in the member of that name, where it is constant if it is absent.
+fn keys_of(
+    alloc: Global,
+    value: &Value,
+    name: &str,
+    other: i64,
+) -> Result<Collection<Keyframe>, Memory>
+    ensures { IfOk result (λ keys. keys ≡ keys_of other name.now (view value.now)) }
+{
+    match value.get(name) {
+        Some(stream) => keys_in(alloc, stream),
+        None => one_key(alloc, other),
+    }
+}
+
+fn source_of(layer: &Value) -> Item
+    ensures { result ≡ unwrap_or (option_map source_in (get (codes "source") (view layer.now))) no_solid }
+{
+    match layer.get("source") {
+        Some(source) => source_in(source),
+        None => NO_SOLID,
+    }
+}
+
+fn plain_layer(alloc: Global, layer: &Value) -> Result<PlainLayer, Memory>
+    ensures { IfOk result (λ plain. plain ≡ plain_layer_of (view layer.now)) }
+{
+    Ok(PlainLayer {
+        source: source_of(layer),
+        start: time_of(layer, "start"),
+        in_point: time_of(layer, "in"),
+        out_point: end_of(layer, "out"),
+        opacity: keys_of(alloc, layer, "opacity", FULL_OPACITY)?,
+        x: keys_of(alloc, layer, "x", 0)?,
+        y: keys_of(alloc, layer, "y", 0)?,
+    })
+}
+
+fn each_layer(alloc: Global, layers: &[Value]) -> Result<Vec<PlainLayer>, Memory>
+    ensures { IfOk result (λ plain. plain.items ≡ map (λ layer. plain_layer_of (view layer)) layers.now) }
+{
+    let mut plain = Vec::new(alloc);
+    for layer in layers {
+        plain.push(plain_layer(alloc, layer)?)?;
+    }
+    Ok(plain)
+}
+
+fn plain_comp(alloc: Global, comp: &Value) -> Result<PlainComp, Memory>
+    ensures { IfOk result (λ plain. plain ≡ plain_comp_of (view comp.now)) }
+{
+    let layers = each_layer(alloc, items_of(comp, "layers"))?;
+    Ok(PlainComp {
+        width: count_of(comp, "width", 0),
+        height: count_of(comp, "height", 0),
+        frame: time_of(comp, "frame"),
+        frames: count_of(comp, "frames", 0),
+        layers: Collection::from_vec(layers),
+    })
+}
+
+fn each_comp(alloc: Global, comps: &[Value]) -> Result<Vec<PlainComp>, Memory>
+    ensures { IfOk result (λ plain. plain.items ≡ map (λ comp. plain_comp_of (view comp)) comps.now) }
+{
+    let mut plain = Vec::new(alloc);
+    for comp in comps {
+        plain.push(plain_comp(alloc, comp)?)?;
+    }
+    Ok(plain)
+}
+
+/// The plain parts of a project, whatever the value is: a part that is absent or out of form counts as one that no rule
+/// accepts, or as its default.
+pub(crate) fn plain_project(alloc: Global, top: &Value) -> Result<PlainProject, Memory>
+    ensures { IfOk result (λ plain. plain ≡ plain_of_data (view top.now)) }
+{
+    let comps = each_comp(alloc, items_of(top, "comps"))?;
+    Ok(PlainProject {
+        depth: count_of(top, "depth", 0),
+        root: count_of(top, "root", NO_INDEX),
+        comps: Collection::from_vec(comps),
+    })
+}

@@ -1,0 +1,5 @@
+//! Tests of reading projects.
+#![tactic(auto)]
+
+#[cfg(test)]
+mod reading;
