@@ -1,0 +1,37 @@
+//! Laws over the definitions, each the contract of a function that does nothing.
+ghost use Rattle.scene_meaning.specs.Shown.{ShownIsOfWhatIsShown, MoreTurnsChangeNothing};
+ghost use Rattle.scene_meaning.specs.Worked.{TwoPixelsAreDrawn, EndedIsNotDrawn, MovingIsDrawn, HalfIsDrawn};
+
+/// A composition shows its layers, whose nested compositions show what they show.
+pub fn shown_is_of_what_is_shown()
+    ensures { ShownIsOfWhatIsShown }
+{}
+
+/// What a composition shows is told in as many turns as its rank; more of them change nothing.
+pub fn more_turns_change_nothing()
+    ensures { MoreTurnsChangeNothing }
+{}
+
+/// The file of the worked example, computed by the definitions: two pixels, 37 bytes.
+#[tactic(auto, unfolding(frame_file::specs::Afr::header_bytes))]
+pub fn two_pixels_are_drawn()
+    ensures { TwoPixelsAreDrawn }
+{}
+
+/// A solid that ends at time 0 leaves the frame transparent.
+#[tactic(auto, unfolding(frame_file::specs::Afr::header_bytes))]
+pub fn ended_is_not_drawn()
+    ensures { EndedIsNotDrawn }
+{}
+
+/// A solid that moves to the right by a pixel a frame, over three frames.
+#[tactic(auto, unfolding(frame_file::specs::Afr::header_bytes))]
+pub fn moving_is_drawn()
+    ensures { MovingIsDrawn }
+{}
+
+/// A solid that is partly outside the frame, at half its opacity.
+#[tactic(auto, unfolding(frame_file::specs::Afr::header_bytes))]
+pub fn half_is_drawn()
+    ensures { HalfIsDrawn }
+{}

@@ -1,0 +1,9 @@
+//! What a project means: the picture of a composition at each tick, and the file of its frames.
+#![tactic(auto)]
+
+mod laws;
+
+pub use laws::{
+    ended_is_not_drawn, half_is_drawn, more_turns_change_nothing, moving_is_drawn,
+    shown_is_of_what_is_shown, two_pixels_are_drawn,
+};
