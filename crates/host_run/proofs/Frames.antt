@@ -1,43 +1,88 @@
--- The frames of a file, one after another.
-use Rattle.std.proofs.Common.{◌≡◌, ℕ, zero, suc, ◌+◌, ◌<◌, pos, List, [], ◌∷◌, ◌++◌, map, refl, sym, ap, ◌∙◌, arith}
-use Rattle.std.specs.Prelude.{flat_map}
+-- The frames of a file, one after another, and the bytes of a picture.
+use Rattle.std.proofs.Common.{◌≡◌, ℕ, zero, suc, ◌+◌, ℤ, pos, ◌+ℤ◌, List, [], ◌∷◌, ◌++◌, true, false, Bool, IsTrue, inl, inr, refl, sym, ap, ◌∙◌, arith}
+use Rattle.std.specs.Prelude.{flat_map, ◌||◌, ◌==◌, ◌⊎◌}
 use Rattle.std.specs.List.{range_with_len}
+use Rattle.std.proofs.Math.IntN.{+ℤ_idl, +ℤ_idr}
+use Rattle.std.proofs.lemmas.Bool.{eqb-true, false≢true}
+use Rattle.std.proofs.lemmas.Grind.{flat_map-append}
 use Rattle.std.proofs.lemmas.List.{append-nil}
-use Rattle.argb_world.specs.Picture.{Picture, row_of}
-use Rattle.project_json.specs.declared.project.Comp.{Comp}
-use Rattle.host_run.specs.Afr.{pixel_bytes, row_bytes}
-use Rattle.host_run.specs.Output.{frame_bytes}
-use Rattle.host_run.specs.Rows.{shown_row}
-use Rattle.host_run.specs.Shown.{shown}
+use Rattle.geom_rect.specs.Rect.{width_of, count_between, positive_part}
+use Rattle.geom_rect.specs.declared.rect.Rect.{Rect}
+use Rattle.argb_pixel.specs.Pixel.{Argb}
+use Rattle.argb_world.specs.Picture.{Picture, at}
+use Rattle.frame_file.specs.Afr.{pixel_bytes, row_bytes, picture_bytes, depth_of, world_bytes}
+use Rattle.frame_draw.specs.Drawn.{IsFrame}
+use Rattle.project_model.specs.Bounds.{most_of, is_bit_depth}
+use Rattle.project_model.specs.Plain.{plain_of, plain_comp}
+use Rattle.project_model.specs.declared.comp.Comp.{Comp}
+use Rattle.project_model.specs.declared.project.Project.{Project}
+use Rattle.scene_meaning.specs.Shown.{shown}
+use Rattle.scene_meaning.specs.Output.{frame_bytes, frame_tick}
 use Rattle.host_run.specs.Written.{IsPrefix}
 use Rattle.host_run.proofs.Known.{prefix_trans}
-use Rattle.host_run.proofs.Drawing.{pieces_more}
 
-flat_map-map : {X Y : Type 0} (f : Y → List ℕ) (g : X → Y) (xs : List X) → flat_map f (map g xs) ≡ flat_map (λ x. f (g x)) xs
-flat_map-map f g [] = refl
-flat_map-map f g (x ∷ xs) = ap (λ ys. f (g x) ++ ys) (flat_map-map f g xs)
+-- one more number at the end of a range, and what a list made from it gains
+range_more : (a n m j : ℕ) → m ≡ suc n → a + n ≡ j → range_with_len a m ≡ range_with_len a n ++ j ∷ []
+range_more a zero m j e k = ap (range_with_len a) e ∙ ap (λ t. t ∷ []) (omega arith)
+range_more a (suc n) m j e k = ap (range_with_len a) e ∙ ap (λ xs. a ∷ xs) (range_more (a + 1) n (suc n) j refl (omega arith))
 
--- two functions that agree on the numbers of a range
-flat_map_same : (f g : ℕ → List ℕ) (a n : ℕ) → ((k : ℕ) → k < a + n → f k ≡ g k) → flat_map f (range_with_len a n) ≡ flat_map g (range_with_len a n)
-flat_map_same f g a zero h = refl
-flat_map_same f g a (suc n) h =
-    ap (λ ys. ys ++ flat_map f (range_with_len (a + 1) n)) (h a (omega arith))
-    ∙ ap (λ ys. g a ++ ys) (flat_map_same f g (a + 1) n (λ k lt. h k (omega arith)))
-
--- the bytes of a picture whose rows are those of a frame
-pub frame_from_rows : (comp : Comp) (picture : Picture) (n : ℕ)
-    → ((y : ℕ) → y < comp.height → row_of picture (pos y) ≡ shown_row 255 comp n y)
-    → flat_map (λ y. flat_map (pixel_bytes 8) (row_of picture (pos y))) (range_with_len 0 comp.height) ≡ frame_bytes 8 comp n
-frame_from_rows comp picture n rows =
-    flat_map_same (λ y. flat_map (pixel_bytes 8) (row_of picture (pos y))) (λ y. row_bytes 8 comp.width (λ x. shown 255 comp n x (pos y))) 0 comp.height
-    (λ y lt. ap (flat_map (pixel_bytes 8)) (rows y (omega arith))
-    ∙ flat_map-map (pixel_bytes 8) (λ x. shown 255 comp n (pos x) (pos y)) (range_with_len 0 comp.width))
+pub pieces_more : (f : ℕ → List ℕ) (a n m j : ℕ) → m ≡ n + 1 → a + n ≡ j → flat_map f (range_with_len a m) ≡ flat_map f (range_with_len a n) ++ f j
+pieces_more f a n m j e k =
+    ap (flat_map f) (range_more a n m j (omega arith) k)
+    ∙ flat_map-append f (range_with_len a n) (j ∷ [])
+    ∙ ap (λ xs. flat_map f (range_with_len a n) ++ xs) (append-nil (f j))
 
 -- the first pieces are a prefix of all
-pub pieces_prefix : (f : ℕ → List ℕ) (k d n : ℕ) → k + d ≡ n → IsPrefix (flat_map f (range_with_len 0 k)) (flat_map f (range_with_len 0 n))
-pieces_prefix f k zero n e =
-    ([], append-nil (flat_map f (range_with_len 0 k)) ∙ ap (λ m. flat_map f (range_with_len 0 m)) (omega arith))
-pieces_prefix f k (suc d) n e =
-    prefix_trans _ (flat_map f (range_with_len 0 (k + 1))) _
-    (f k, sym (pieces_more f 0 k k (omega arith)))
-    (pieces_prefix f (k + 1) d n (omega arith))
+pub pieces_prefix : (f : ℕ → List ℕ) (a k d n : ℕ) → k + d ≡ n → IsPrefix (flat_map f (range_with_len a k)) (flat_map f (range_with_len a n))
+pieces_prefix f a k zero n e =
+    ([], append-nil (flat_map f (range_with_len a k)) ∙ ap (λ m. flat_map f (range_with_len a m)) (omega arith))
+pieces_prefix f a k (suc d) n e =
+    prefix_trans _ (flat_map f (range_with_len a (k + 1))) _
+    (f (a + k), sym (pieces_more f a k (k + 1) (a + k) refl refl))
+    (pieces_prefix f a (k + 1) d n (omega arith))
+
+-- two functions that agree make the same pieces
+flat_map_same : (f g : ℕ → List ℕ) (a n : ℕ) → ((k : ℕ) → f k ≡ g k) → flat_map f (range_with_len a n) ≡ flat_map g (range_with_len a n)
+flat_map_same f g a zero h = refl
+flat_map_same f g a (suc n) h =
+    ap (λ ys. ys ++ flat_map f (range_with_len (a + 1) n)) (h a)
+    ∙ ap (λ ys. g a ++ ys) (flat_map_same f g (a + 1) n h)
+
+picture_same : (depth width height : ℕ) (f g : ℤ → ℤ → Argb) → ((x y : ℤ) → f x y ≡ g x y) → picture_bytes depth width height f ≡ picture_bytes depth width height g
+picture_same depth width height f g same =
+    flat_map_same (λ y. row_bytes depth width (λ x. f x (pos y))) (λ y. row_bytes depth width (λ x. g x (pos y))) 0 height
+    (λ y. flat_map_same (λ x. pixel_bytes depth (f (pos x) (pos y))) (λ x. pixel_bytes depth (g (pos x) (pos y))) 0 width
+    (λ x. ap (pixel_bytes depth) (same (pos x) (pos y))))
+
+count_from_zero : (n : ℕ) → count_between (pos 0) (pos n) ≡ n
+count_from_zero n = ap positive_part (+ℤ_idr (pos n))
+
+is_bit_depth-cases : (depth : ℕ) → IsTrue (is_bit_depth depth) → (depth ≡ 8) ⊎ (depth ≡ 16)
+is_bit_depth-cases depth bits = either_of (depth == 8) (depth == 16) (eqb-true depth 8) (eqb-true depth 16) bits
+  where
+    either_of : (a b : Bool) {P Q : Type 0} → (a ≡ true → P) → (b ≡ true → Q) → IsTrue (a || b) → P ⊎ Q
+    either_of true b p q h = inl (p refl)
+    either_of false true p q h = inr (q refl)
+    either_of false false p q h = absurd (false≢true h)
+
+depth_back : (depth : ℕ) → IsTrue (is_bit_depth depth) → depth_of (most_of depth) ≡ depth
+depth_back depth bits =
+    elim (is_bit_depth-cases depth bits) [
+      | inl is_8 ↦ ap (λ d. depth_of (most_of d)) is_8 ∙ sym is_8
+      | inr is_16 ↦ ap (λ d. depth_of (most_of d)) is_16 ∙ sym is_16
+    ]
+
+-- a picture that shows a frame has the frame's bytes
+pub frame_as_bytes : (most : ℕ) (p : Project) (comp : Comp) (n : ℕ) (world : Picture) → most ≡ most_of p.depth → IsTrue (is_bit_depth p.depth)
+    → IsFrame p comp n world → world_bytes most world ≡ frame_bytes (plain_of p) (plain_comp comp) n
+frame_as_bytes most p comp n world most_is bits drawn =
+    let over : ℕ → Rect → List ℕ = λ depth r.
+    picture_bytes depth (width_of r) (count_between r.top r.bottom) (λ x y. at world (r.left +ℤ x) (r.top +ℤ y)) in
+    let here : ℤ → ℤ → Argb = λ x y. at world (pos 0 +ℤ x) (pos 0 +ℤ y) in
+    let depth_is : depth_of most ≡ p.depth = ap depth_of most_is ∙ depth_back p.depth bits in
+    ap (λ depth. over depth world.part) depth_is
+    ∙ ap (over p.depth) drawn.part
+    ∙ ap (λ width. picture_bytes p.depth width (count_between (pos 0) (pos comp.height)) here) (count_from_zero comp.width)
+    ∙ ap (λ height. picture_bytes p.depth comp.width height here) (count_from_zero comp.height)
+    ∙ picture_same p.depth comp.width comp.height here (shown (plain_of p) p.root (frame_tick (plain_of p) (plain_comp comp) n))
+    (λ x y. ap (λ a. at world a (pos 0 +ℤ y)) (+ℤ_idl x) ∙ ap (λ b. at world x b) (+ℤ_idl y) ∙ drawn.points x y)

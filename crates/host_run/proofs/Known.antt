@@ -74,3 +74,7 @@ front_of a b xs whole h p = (h.0, h.1, prefix_trans h.0 xs whole h.2 p)
 pub front_after : (a b c : Option (List ℕ)) (xs ys whole : List ℕ) → Appends a b xs → AppendsFront b c ys → IsPrefix (xs ++ ys) whole → AppendsFront a c whole
 front_after a b c xs ys whole h k p =
     (xs ++ k.0, appends_more a b c xs k.0 h k.1, prefix_trans (xs ++ k.0) (xs ++ ys) whole (prefix_behind xs k.0 ys k.2) p)
+
+pub keeps_none : (a : Option (List ℕ)) → Keeps a a
+keeps_none None = tt
+keeps_none (Some xs) = refl

@@ -1,4 +1,3 @@
-pub mod Known
-pub mod Blending
-pub mod Drawing
+pub mod Ended
 pub mod Frames
+pub mod Known

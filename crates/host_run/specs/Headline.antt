@@ -1,57 +1,37 @@
--- What a run has done with its source and its sink, by how it ended. In each, 'before' is as the run began.
-use Rattle.std.specs.Prelude.{◌≡◌, ℕ, ◌<◌, ◌≤◌, ◌⊎◌, List, length, Option, Ok, Err}
-use Rattle.std.specs.Io.KnownBytes.{Consumes, IsAtEnd, Keeps, Appends}
-use Rattle.host_io.specs.Cause.{last_count}
-use Rattle.project_json.specs.declared.project.Project.{Project}
-use Rattle.project_json.specs.declared.error.ProjectError.{ProjectError}
-use Rattle.project_json.specs.Reading.{project_of}
-use Rattle.host_run.specs.Input.{longest_text}
-use Rattle.host_run.specs.Output.{file, last_frame}
-use Rattle.host_run.specs.Written.{AppendsFront}
+-- What a run that ends well has done.
+use Rattle.std.specs.Prelude.{◌≡◌, ◌⊎◌, ℕ, List, Option, IfSome}
+use Rattle.std.specs.Io.KnownBytes.{Consumes, IsAtEnd, Appends}
+use Rattle.host_io.specs.declared.status.Status.{Status}
+use Rattle.host_io.specs.declared.status.Status.TheVariants as status
+use Rattle.project_model.specs.declared.plain.PlainProject.{PlainProject}
+use Rattle.host_run.specs.Ending.{status_of_end}
+use Rattle.host_run.specs.Outcome.{Outcome, accepted, outcome, end_of, IsAccepted}
+use Rattle.scene_meaning.specs.Output.{file}
+use Rattle.host_run.specs.Run.{Seen, IsQuiet}
+use Rattle.host_run.specs.declared.settings.Settings.{Settings}
 
--- All bytes that the source had left were taken, and they are a text that is not too long.
-pub record IsReadWhole (left_before left_now : Option (List ℕ)) (bytes : List ℕ) : Type 0 where
-  pub taken : Consumes left_before left_now bytes
-  pub ended : IsAtEnd left_now
-  pub bound : length bytes ≤ longest_text
-
--- They are read as a project.
-pub record IsAccepted (left_before left_now : Option (List ℕ)) (project : Project) : Type 0 where
+-- All bytes that the source had left were taken. With the settings they come to a project and a span of it, and the file of
+-- the frames of that span was appended to what the sink had, and nothing else.
+pub record IsRendered (asked : Option Settings) (source sink : Seen) : Type 0 where
   pub bytes : List ℕ
-  pub whole : IsReadWhole left_before left_now bytes
-  pub read : project_of bytes ≡ Ok project
+  pub project : PlainProject
+  pub from : ℕ
+  pub to : ℕ
+  pub taken : Consumes source.before source.now bytes
+  pub ended : IsAtEnd source.now
+  pub read : outcome asked bytes ≡ accepted project from to
+  pub appended : Appends sink.before sink.now (file project from to)
 
--- They are read as a project, and its file, over all its frames, was appended to what the sink had, and nothing else.
-pub record IsRendered (left_before left_now written_before written_now : Option (List ℕ)) : Type 0 where
-  pub project : Project
-  pub accepted : IsAccepted left_before left_now project
-  pub appended : Appends written_before written_now (file project 0 (last_frame project))
+-- the status of the outcome, or want of memory; one that is accepted may still meet a sink that fails
+abbrev pub Answers : Outcome → Status → Type 0
+Answers o s = (s ≡ status_of_end (end_of o)) ⊎ (s ≡ status.Memory) ⊎ (IsAccepted o × (s ≡ status.WriteFault))
 
--- They are read as a project, and a front of its file was appended, and nothing else.
-pub record IsPartlyWritten (left_before left_now written_before written_now : Option (List ℕ)) : Type 0 where
-  pub project : Project
-  pub accepted : IsAccepted left_before left_now project
-  pub appended : AppendsFront written_before written_now (file project 0 (last_frame project))
+-- where the source tells its bytes and no read failed, the outcome of all its bytes is the answer
+abbrev pub IsAnswered : Option Settings → Status → Seen → Type 0
+IsAnswered asked s source = IfSome source.before (λ bytes. IsQuiet source → Answers (outcome asked bytes) s)
 
--- They have no reading as a project.
-pub record IsRefused (left_before left_now : Option (List ℕ)) : Type 0 where
-  pub bytes : List ℕ
-  pub error : ProjectError
-  pub whole : IsReadWhole left_before left_now bytes
-  pub read : project_of bytes ≡ Err error
-
--- More bytes than a text may have were taken.
-pub record IsTooLong (left_before left_now : Option (List ℕ)) : Type 0 where
-  pub bytes : List ℕ
-  pub taken : Consumes left_before left_now bytes
-  pub more : longest_text < length bytes
-
--- nothing was appended, or a front of the file of the project that was read
-abbrev pub WritesPart : (left_before left_now written_before written_now : Option (List ℕ)) → Type 0
-WritesPart left_before left_now written_before written_now =
-    Keeps written_before written_now ⊎ IsPartlyWritten left_before left_now written_before written_now
-
--- A count of faults did not rise. At the count's end that cannot be told, and nothing is claimed.
-pub record IsQuiet (before now : ℕ) : Type 0 where
-  pub same : now ≡ before
-  pub below_end : before < last_count
+-- where the outcome is accepted and neither a read nor a write failed, the run ends well but for want of memory
+abbrev pub IsComplete : Option Settings → Status → Seen → Seen → Type 0
+IsComplete asked s source sink =
+    IfSome source.before (λ bytes. IsAccepted (outcome asked bytes) → IsQuiet source → IsQuiet sink
+    → (s ≡ status.Ok) ⊎ (s ≡ status.Memory))

@@ -1,44 +1,91 @@
--- How a run ended, and what it left.
-use Rattle.std.specs.Prelude.{◌≡◌, ℕ, Bool, true, false, Option, List, Result, Ok, Err}
-use Rattle.std.specs.Io.KnownBytes.{Keeps}
-use Rattle.host_io.specs.Cause.{Rose}
+-- How a run ended, and what it did with its source, its sink and its notes. In each, 'before' is as the run began.
+use Rattle.std.specs.Prelude.{◌≡◌, ℕ, ◌<◌, ◌⊎◌, Option, List, Result, Ok, Err, IsTrue}
+use Rattle.std.specs.Io.KnownBytes.{Keeps, Appends, Consumes, IsAtEnd}
+use Rattle.host_io.specs.Cause.{Rose, last_count}
+use Rattle.host_io.specs.declared.status.Status.{Status}
+use Rattle.host_io.specs.declared.status.Status.TheVariants as status
+use Rattle.host_run.specs.Ending.{status_of_end, note_of_end}
+use Rattle.host_run.specs.Outcome.{Outcome, outcome, end_of, output, IsAccepted, is_read_on}
+use Rattle.host_run.specs.Written.{AppendsFront}
+use Rattle.host_run.specs.declared.settings.Settings.{Settings}
 use Rattle.host_run.specs.declared.notes.Ending.{Ending}
-use Rattle.host_run.specs.declared.notes.Ending.TheVariants.{Words, NotJson, Rule, ReadFault, WriteFault, Memory, ProjectTooLong}
-use Rattle.host_run.specs.Headline.{IsRendered, IsPartlyWritten, IsRefused, IsTooLong, WritesPart}
+use Rattle.host_run.specs.declared.notes.Ending.TheVariants.{Words, ReadFault, WriteFault, Memory, ProjectTooLong}
 
--- the source and the sink, before and now
-pub record Observed : Type 0 where
-  pub left_before : Option (List ℕ)
-  pub left_now : Option (List ℕ)
-  pub written_before : Option (List ℕ)
-  pub written_now : Option (List ℕ)
-  pub read_faults_before : ℕ
-  pub read_faults_now : ℕ
-  pub write_faults_before : ℕ
-  pub write_faults_now : ℕ
+-- what was seen of an object: its bytes that are left or written, where it tells them, and its count of faults
+pub record Seen : Type 0 where
+  pub before : Option (List ℕ)
+  pub now : Option (List ℕ)
+  pub faults_before : ℕ
+  pub faults_now : ℕ
 
--- no read was counted as failed
-abbrev pub ReadsWell : Observed → Type 0
-ReadsWell t = t.read_faults_now ≡ t.read_faults_before
+-- by the meaning of its trait: its bytes and its count of faults, before and now
+abbrev pub seen_of : {A : Type 0} → (A → Option (List ℕ)) → (A → ℕ) → A → A → Seen
+seen_of bytes faults before now = record {
+  before = bytes before;
+  now = bytes now;
+  faults_before = faults before;
+  faults_now = faults now;
+}
 
--- no write was counted as failed
-abbrev pub WritesWell : Observed → Type 0
-WritesWell t = t.write_faults_now ≡ t.write_faults_before
+-- no fault was counted
+abbrev pub WorksWell : Seen → Type 0
+WorksWell seen = seen.faults_now ≡ seen.faults_before
 
--- nothing was written
-abbrev pub WritesNothing : Observed → Type 0
-WritesNothing t = Keeps t.written_before t.written_now × WritesWell t
+-- one was
+abbrev pub Fails : Seen → Type 0
+Fails seen = Rose seen.faults_before seen.faults_now
 
--- the words are accepted or not, and then, by the ending
-abbrev pub HasEnded : Bool → Result (Unit {0}) Ending → Observed → Type 0
-HasEnded accepts (Ok done) t =
-    (accepts ≡ true) × IsRendered t.left_before t.left_now t.written_before t.written_now × ReadsWell t × WritesWell t
-HasEnded accepts (Err Words) t = (accepts ≡ false) × Keeps t.left_before t.left_now × ReadsWell t × WritesNothing t
-HasEnded accepts (Err NotJson) t = (accepts ≡ true) × IsRefused t.left_before t.left_now × ReadsWell t × WritesNothing t
-HasEnded accepts (Err (Rule number)) t = (accepts ≡ true) × IsRefused t.left_before t.left_now × ReadsWell t × WritesNothing t
-HasEnded accepts (Err ProjectTooLong) t = (accepts ≡ true) × IsTooLong t.left_before t.left_now × ReadsWell t × WritesNothing t
-HasEnded accepts (Err ReadFault) t = (accepts ≡ true) × Rose t.read_faults_before t.read_faults_now × WritesNothing t
-HasEnded accepts (Err WriteFault) t =
-    (accepts ≡ true) × IsPartlyWritten t.left_before t.left_now t.written_before t.written_now × ReadsWell t × Rose t.write_faults_before t.write_faults_now
-HasEnded accepts (Err Memory) t =
-    (accepts ≡ true) × WritesPart t.left_before t.left_now t.written_before t.written_now × ReadsWell t × WritesWell t
+-- A count of faults did not rise. At the count's end that cannot be told, and nothing is claimed.
+pub record IsQuiet (seen : Seen) : Type 0 where
+  pub same : seen.faults_now ≡ seen.faults_before
+  pub below_end : seen.faults_before < last_count
+
+-- The cause of the end: what the words and the bytes come to, or a fault that was counted, or want of memory. A source is not
+-- read where the words are refused, nor past a text that is too long.
+abbrev pub IsCaused : Outcome → Result (Unit {0}) Ending → Seen → Seen → Type 0
+IsCaused o (Err ReadFault) source sink = IsTrue (is_read_on o) × Fails source × WorksWell sink
+IsCaused o (Err WriteFault) source sink = IsAccepted o × WorksWell source × Fails sink
+IsCaused o (Err Memory) source sink = WorksWell source × WorksWell sink
+IsCaused o end source sink = (end ≡ end_of o) × WorksWell source × WorksWell sink
+
+-- what is left of the source: nothing, but where it was not read to its end
+abbrev pub Leaves : Result (Unit {0}) Ending → Seen → Type 0
+Leaves (Err Words) source = Keeps source.before source.now
+Leaves (Err ReadFault) source = Unit {0}
+Leaves (Err Memory) source = Unit {0}
+Leaves (Err ProjectTooLong) source = Unit {0}
+Leaves end source = IsAtEnd source.now
+
+-- a front of the output was written, of a source that was read to its end
+abbrev pub WritesFront : Outcome → Seen → Seen → Type 0
+WritesFront o source sink = IsAtEnd source.now × AppendsFront sink.before sink.now (output o)
+
+-- what was written: the whole output, or a front of it where the sink or memory fails, or nothing
+abbrev pub Writes : Outcome → Result (Unit {0}) Ending → Seen → Seen → Type 0
+Writes o (Ok done) source sink = Appends sink.before sink.now (output o)
+Writes o (Err WriteFault) source sink = WritesFront o source sink
+Writes o (Err Memory) source sink = Keeps sink.before sink.now ⊎ WritesFront o source sink
+Writes o (Err ending) source sink = Keeps sink.before sink.now
+
+-- A run that ends well says so, and writes no note. Else the note is a front of the end's line, and the whole line where the
+-- notes did not fail; want of memory for it is what the run then ends with.
+pub record IsNoted (end : Result (Unit {0}) Ending) (s : Status) (notes : Seen) : Type 0 where
+  pub well : end ≡ Ok tt → s ≡ status.Ok
+  pub told : (s ≡ status_of_end end) ⊎ (s ≡ status.Memory)
+  pub front : AppendsFront notes.before notes.now (note_of_end end)
+  pub whole : IsQuiet notes → (s ≡ status.Memory) ⊎ Appends notes.before notes.now (note_of_end end)
+
+-- With these settings, none where the words are refused: the bytes that the source handed out, the cause of the end, and what
+-- follows from them.
+pub record HasEnded (asked : Option Settings) (end : Result (Unit {0}) Ending) (source sink : Seen) : Type 0 where
+  pub bytes : List ℕ
+  pub taken : Consumes source.before source.now bytes
+  pub caused : IsCaused (outcome asked bytes) end source sink
+  pub left : Leaves end source
+  pub written : Writes (outcome asked bytes) end source sink
+
+-- a run ended so, and said it
+pub record HasRun (asked : Option Settings) (s : Status) (source sink notes : Seen) : Type 0 where
+  pub end : Result (Unit {0}) Ending
+  pub ended : HasEnded asked end source sink
+  pub noted : IsNoted end s notes

@@ -1,19 +1,32 @@
-ghost use Rattle.std.specs.Prelude.{◌≡◌, ◌<◌, ◌⊎◌, false, IsTrue, IfSome};
-ghost use Rattle.std.specs.Io.KnownBytes.{Keeps};
-ghost use Rattle.host_io.specs.Cause.{Rose};
-ghost use Rattle.host_run.specs.Headline.{IsRendered, IsPartlyWritten, IsRefused, IsTooLong, IsQuiet, WritesPart};
-ghost use Rattle.host_run.specs.Outcome.{words_accepted, outcome, Answers, is_answer, ends_before_writing};
-ghost use Rattle.host_run.specs.Run.{HasEnded};
+ghost use Rattle.std.specs.Prelude.{◌≡◌, ◌<◌, ◌≤◌, map, string_bytes, slice_get, IfOk, Some};
+ghost use Rattle.project_model.specs.Plain.{plain_of};
+ghost use Rattle.project_model.specs.Sound.{IsSound};
+ghost use Rattle.host_run.specs.Headline.{IsRendered, IsAnswered, IsComplete};
+ghost use Rattle.host_run.specs.Run.{HasEnded, HasRun, seen_of};
+ghost use Rattle.host_run.specs.Stages.{HasRead, HasSpan, InRoot};
+ghost use Rattle.host_run.specs.Words.{words_of};
 
 use crate::input::{ReadError, read_to_end};
 use crate::notes::{Ending, note};
-use crate::render::write_project_file;
+use crate::settings::Settings;
+use crate::span::{Span, root_of, write_span};
+use crate::words::{WordsError, read_words};
 use host_io::{Sink, SinkError, Source, Status};
 use project_json::{ProjectError, read_project};
+use project_model::Project;
 use std::alloc::Global;
 
 impl Ending {
-    ghost use Rattle.host_run.specs.Ending.{ending_of_reading, ending_of_project, ending_of_writing};
+    ghost use Rattle.host_run.specs.Ending.{ending_of_words, ending_of_reading, ending_of_project, ending_of_writing};
+
+    fn of_words(error: WordsError) -> Ending
+        ensures { result ≡ ending_of_words error }
+    {
+        match error {
+            WordsError::Refused => Ending::Words,
+            WordsError::Memory => Ending::Memory,
+        }
+    }
 
     fn of_reading(error: ReadError) -> Ending
         ensures { result ≡ ending_of_reading error }
@@ -45,48 +58,72 @@ impl Ending {
     }
 }
 
+/// Reads the project. Its text is let go.
+fn read_input<S: Source>(alloc: Global, source: &mut S) -> Result<Project, Ending>
+    ensures { HasRead result (seen_of S.left S.faults source.old source.new) }
+{
+    let bytes = match read_to_end(alloc, source) {
+        Ok(bytes) => bytes,
+        Err(error) => return Err(Ending::of_reading(error)),
+    };
+    match read_project(alloc, &bytes) {
+        Ok(project) => Ok(project),
+        Err(error) => Err(Ending::of_project(error)),
+    }
+}
+
+/// The span that is asked for, where it lies in the root.
+fn span_of(settings: &Settings, project: &Project) -> Result<Span, Ending>
+    requires { IsSound project.now }
+    ensures asked { HasSpan settings.now (plain_of project.now) result }
+    ensures inside { IfOk result (InRoot (plain_of project.now)) }
+{
+    let count = root_of(project).frames;
+    let from = settings.from;
+    let to = settings.to.unwrap_or(count.saturating_sub(1));
+    if from <= to && to < count {
+        Ok(Span { from, to })
+    } else {
+        Err(Ending::Span(from, to, count))
+    }
+}
+
 /// Renders a project, or says why not.
 fn render<S: Source, K: Sink>(
     alloc: Global,
     words: &[String],
-    project: &mut S,
+    source: &mut S,
     out: &mut K,
 ) -> Result<(), Ending>
-    ensures { HasEnded (words_accepted words.now) result record {
-      left_before = S.left project.old;
-      left_now = S.left project.new;
-      written_before = K.written out.old;
-      written_now = K.written out.new;
-      read_faults_before = S.faults project.old;
-      read_faults_now = S.faults project.new;
-      write_faults_before = K.faults out.old;
-      write_faults_now = K.faults out.new;
-    } }
+    ensures { HasEnded (words_of (map string_bytes words.now)) result
+        (seen_of S.left S.faults source.old source.new) (seen_of K.written K.faults out.old out.new) }
 {
-    if !words.is_empty() {
-        return Err(Ending::Words);
-    }
-    let bytes = match read_to_end(alloc, project) {
-        Ok(bytes) => bytes,
-        Err(error) => return Err(Ending::of_reading(error)),
+    let settings = match read_words(alloc, words) {
+        Ok(settings) => settings,
+        Err(error) => return Err(Ending::of_words(error)),
     };
-    let project = match read_project(alloc, &bytes) {
+    let project = match read_input(alloc, source) {
         Ok(project) => project,
-        Err(error) => return Err(Ending::of_project(error)),
+        Err(ending) => return Err(ending),
     };
-    match write_project_file(alloc, &project, out) {
+    let span = match span_of(&settings, &project) {
+        Ok(span) => span,
+        Err(ending) => return Err(ending),
+    };
+    match write_span(alloc, &project, span, out) {
         Ok(()) => Ok(()),
         Err(error) => Err(Ending::of_writing(error)),
     }
 }
 
-/// Renders a project: reads its JSON from `project` to the end, draws the frames of its root
-/// composition and writes them to `out` as an AFR file. Where it cannot, it writes a line to `notes`.
+/// Renders a project: reads its JSON from `project` to the end, draws the frames of its root composition that the words ask
+/// for and writes them to `out` as an AFR file. Where it cannot, it writes a line to `notes`.
 ///
-/// - `Words`: there are words; none is known yet.
-/// - `ProjectTooLong`: there are more than 67,108,864 bytes.
+/// - `Words`: the words are no settings (see [`crate::read_words`]); nothing is read.
 /// - `ReadFault`: the source failed.
+/// - `ProjectTooLong`: there are more than 67,108,864 bytes, and no read of them failed.
 /// - `Project`: the bytes are not JSON, or not a project (see [`project_json::read_project`]).
+/// - `Span`: the first frame that is asked for is behind the last, or the last is not in the root.
 /// - `WriteFault`: the sink failed; a prefix of the file is written.
 /// - `Memory`: memory ran out; a prefix of the file may be written.
 pub fn run<S: Source, K: Sink, N: Sink>(
@@ -96,35 +133,22 @@ pub fn run<S: Source, K: Sink, N: Sink>(
     out: &mut K,
     notes: &mut N,
 ) -> Status
-    // On Ok the bytes written are the file of the project that the bytes left were read as.
-    ensures headline { result ≡ Status.Ok → IsRendered (S.left project.old) (S.left project.new)
-        (K.written out.old) (K.written out.new) }
+    // On Ok the bytes written are the file of the span of the project that the bytes left were read as.
+    ensures headline { result ≡ Status.Ok → IsRendered (words_of (map string_bytes words.now))
+        (seen_of S.left S.faults project.old project.new) (seen_of K.written K.faults out.old out.new) }
 
-    // Where the source tells its bytes and no read failed, the outcome decides, but for a sink that fails and for want of memory.
-    ensures outcome { IfSome (S.left project.old) (λ bytes. IsQuiet (S.faults project.old) (S.faults project.new)
-        → Answers (outcome words.now bytes) result) }
+    // Where the source tells its bytes and no read failed, the outcome of all of them decides.
+    ensures answered { IsAnswered (words_of (map string_bytes words.now)) result
+        (seen_of S.left S.faults project.old project.new) }
 
-    // When each status comes.
-    ensures words { result ≡ Status.Words → words_accepted words.now ≡ false }
-    ensures words_always { words_accepted words.now ≡ false → (result ≡ Status.Words) ⊎ (result ≡ Status.Memory) }
-    ensures project { result ≡ Status.Project → IsRefused (S.left project.old) (S.left project.new) }
-    ensures too_long { result ≡ Status.ProjectTooLong → IsTooLong (S.left project.old) (S.left project.new) }
-    ensures read_fault { result ≡ Status.ReadFault → Rose (S.faults project.old) (S.faults project.new) }
-    ensures read_fault_always { S.faults project.old < S.faults project.new
-        → (result ≡ Status.ReadFault) ⊎ (result ≡ Status.Memory) }
-    ensures write_fault { result ≡ Status.WriteFault → Rose (K.faults out.old) (K.faults out.new) }
-    ensures write_fault_always { K.faults out.old < K.faults out.new
-        → (result ≡ Status.WriteFault) ⊎ (result ≡ Status.Memory) }
-    ensures no_other { IsTrue (is_answer result) }
+    // An accepted outcome is written, where no read and no write failed, but for want of memory.
+    ensures complete { IsComplete (words_of (map string_bytes words.now)) result
+        (seen_of S.left S.faults project.old project.new) (seen_of K.written K.faults out.old out.new) }
 
-    // What was written where it was not the whole file.
-    ensures front { result ≡ Status.WriteFault → IsPartlyWritten (S.left project.old) (S.left project.new)
-        (K.written out.old) (K.written out.new) }
-    ensures part { result ≡ Status.Memory → WritesPart (S.left project.old) (S.left project.new)
-        (K.written out.old) (K.written out.new) }
-    ensures refused_words { words_accepted words.now ≡ false → Keeps (K.written out.old) (K.written out.new) }
-    ensures no_note { result ≡ Status.Ok → Keeps (N.written notes.old) (N.written notes.new) }
-    ensures nothing { IsTrue (ends_before_writing result) → Keeps (K.written out.old) (K.written out.new) }
+    // How it ended, by which cause, what is left and what was written, and the note that says so.
+    ensures ran { HasRun (words_of (map string_bytes words.now)) result
+        (seen_of S.left S.faults project.old project.new) (seen_of K.written K.faults out.old out.new)
+        (seen_of N.written N.faults notes.old notes.new) }
 {
     match render(alloc, words, project, out) {
         Ok(()) => Status::Ok,

@@ -1,7 +1,6 @@
 ghost use Rattle.std.specs.Prelude.{◌≡◌, ◌<◌, ◌≤◌, length, vec_len, IfOk, OnOk, OnErr, IsErrOf, IfSome};
-ghost use Rattle.std.specs.Io.KnownBytes.{Consumes, IsAtEnd};
-ghost use Rattle.host_run.specs.Headline.{IsTooLong};
-ghost use Rattle.host_run.specs.Input.{longest_text, AddsRead, TakesSome, CountsFault};
+ghost use Rattle.std.specs.Io.KnownBytes.{Consumes, IsAtEnd, Keeps};
+ghost use Rattle.host_run.specs.Input.{IsTooLong, IsShort, AddsRead, TakesSome, CountsFault};
 
 use host_io::{Failed, Source};
 use std::alloc::Global;
@@ -24,9 +23,10 @@ pub(crate) enum ReadError {
 pub(crate) fn read_to_end<S: Source>(alloc: Global, source: &mut S) -> Result<Vec<u8>, ReadError>
     ensures bytes { IfOk result (λ v. Consumes (S.left source.old) (S.left source.new) v.items) }
     ensures end { OnOk result (IsAtEnd (S.left source.new)) }
-    ensures bound { IfOk result (λ v. vec_len v ≤ longest_text) }
+    ensures bound { IfOk result (λ v. vec_len v ≤ LONGEST_TEXT) }
 
     ensures too_long { IsErrOf result ReadError.TooLong → IsTooLong (S.left source.old) (S.left source.new) }
+    ensures short { IsErrOf result ReadError.Fault → IsShort (S.left source.old) (S.left source.new) }
     ensures none_lost { OnErr result (TakesSome (S.left source.old) (S.left source.new)) }
 
     // The count rises where a read failed, unless it stands at its end, and nowhere else.
@@ -62,6 +62,7 @@ fn read_more<S: Source>(
     ensures more { IfOk result (λ count. AddsRead count (S.left source.old) (S.left source.new) bytes.old.items bytes.new.items) }
     ensures end { IfOk result (λ count. count ≡ 0 → IsAtEnd (S.left source.new)) }
     ensures none_lost { OnErr result (TakesSome (S.left source.old) (S.left source.new)) }
+    ensures kept { IsErrOf result ReadError.Fault → Keeps (S.left source.old) (S.left source.new) }
     ensures not_long { IsErrOf result ReadError.TooLong → ⊥ }
     ensures later { S.faults source.old ≤ S.faults source.new }
     ensures cause { CountsFault result (S.faults source.old) (S.faults source.new) }

@@ -1,18 +1,18 @@
 //! Renders a project: from the bytes of its source to the bytes of its file.
 #![tactic(auto)]
 
-mod afr;
-mod blend;
-mod draw;
+mod arguments;
 mod host;
 mod input;
-mod laws;
 mod notes;
 mod output;
-mod render;
+mod settings;
+mod span;
+mod words;
 
+pub use arguments::{ArgumentsError, program};
 pub use host::run;
-pub use laws::{opaque_hides, stack_is_premultiplied, transparent_leaves, two_pixels_are_drawn};
-
-#[cfg(test)]
-mod tests;
+pub use settings::{
+    DEFAULT_BUDGET, DEFAULT_NUMBER, DEFAULT_WORKERS, LAST_FRAME, RunMode, Settings,
+};
+pub use words::{WordsError, read_words};

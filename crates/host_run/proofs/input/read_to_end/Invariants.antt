@@ -1,6 +1,6 @@
 use Rattle.std.proofs.Common.{◌≡◌, suc, ◌-◌, ◌<◌, vec_len}
 use Rattle.std.specs.Io.KnownBytes.{Consumes}
-use Rattle.host_run.specs.Input.{longest_text}
+use Rattle.host_run.specs.declared.input.TheConstants.{LONGEST_TEXT}
 use Rattle.host_run.proofs.input.read_to_end.Given as goal
 
 -- what was read so far was taken from the source, and no read failed
@@ -14,4 +14,4 @@ invariant-pieces g l =
     }
 
 abbrev pub decreases-pieces : goal.decreases-pieces
-decreases-pieces g l = suc longest_text - vec_len l.bytes
+decreases-pieces g l = suc LONGEST_TEXT - vec_len l.bytes

@@ -1,0 +1,53 @@
+-- What the steps of a run say of themselves: reading the project, and finding the span.
+use Rattle.std.specs.Prelude.{◌≡◌, ℕ, ◌<◌, ◌≤◌, List, length, Option, Result, Ok, Err}
+use Rattle.std.specs.Io.KnownBytes.{Consumes, IsAtEnd}
+use Rattle.project_model.specs.declared.plain.PlainProject.{PlainProject}
+use Rattle.project_model.specs.declared.project.Project.{Project}
+use Rattle.project_model.specs.Plain.{plain_of}
+use Rattle.project_model.specs.Sound.{IsSound}
+use Rattle.project_json.specs.Reading.{project_of}
+use Rattle.project_json.specs.declared.error.ProjectError.TheVariants as project
+use Rattle.scene_meaning.specs.Output.{frame_count}
+use Rattle.host_run.specs.Outcome.{accepted, span_refused, outcome_of_span, last_asked}
+use Rattle.host_run.specs.Run.{Seen, WorksWell, Fails}
+use Rattle.host_run.specs.declared.input.TheConstants.{LONGEST_TEXT}
+use Rattle.host_run.specs.declared.settings.Settings.{Settings}
+use Rattle.host_run.specs.declared.span.Span.{Span}
+use Rattle.host_run.specs.declared.notes.Ending.{Ending}
+use Rattle.host_run.specs.declared.notes.Ending.TheVariants as ending
+
+-- the source was read to its end, and the bytes are no more than a text may have
+pub record IsWhole (bytes : List ℕ) (source : Seen) : Type 0 where
+  pub ended : IsAtEnd source.now
+  pub works : WorksWell source
+  pub bound : length bytes ≤ LONGEST_TEXT
+
+-- what the bytes that were taken are read as, or why not all were taken
+abbrev pub Reads : Result Project Ending → List ℕ → Seen → Type 0
+Reads (Ok p) bytes source = IsWhole bytes source × (project_of bytes ≡ Ok (plain_of p)) × IsSound p
+Reads (Err ending.NotJson) bytes source = IsWhole bytes source × (project_of bytes ≡ Err project.NotJson)
+Reads (Err (ending.Rule number)) bytes source =
+    IsWhole bytes source × ((comp : Option ℕ) × (layer : Option ℕ) × (project_of bytes ≡ Err (project.Rule number comp layer)))
+Reads (Err ending.ReadFault) bytes source = Fails source × (length bytes ≤ LONGEST_TEXT)
+Reads (Err ending.ProjectTooLong) bytes source = WorksWell source × (LONGEST_TEXT < length bytes)
+Reads (Err ending.Memory) bytes source = WorksWell source
+Reads (Err ending.Words) bytes source = ⊥
+Reads (Err ending.WriteFault) bytes source = ⊥
+Reads (Err (ending.Span from to count)) bytes source = ⊥
+
+pub record HasRead (result : Result Project Ending) (source : Seen) : Type 0 where
+  pub bytes : List ℕ
+  pub taken : Consumes source.before source.now bytes
+  pub reads : Reads result bytes source
+
+-- the span that the settings ask for, or its refusal
+abbrev pub HasSpan : Settings → PlainProject → Result Span Ending → Type 0
+HasSpan settings p (Ok span) = outcome_of_span p settings.from (last_asked settings p) ≡ accepted p span.from span.to
+HasSpan settings p (Err (ending.Span from to count)) =
+    outcome_of_span p settings.from (last_asked settings p) ≡ span_refused from to count
+HasSpan settings p (Err other) = ⊥
+
+-- the span lies in the root
+pub record InRoot (p : PlainProject) (span : Span) : Type 0 where
+  pub order : span.from ≤ span.to
+  pub end : span.to < frame_count p

@@ -1,0 +1,30 @@
+/// The greatest number that `--from` and `--to` may say.
+pub const LAST_FRAME: u32 = 65_535;
+
+/// The workers of a render where the words say none.
+pub const DEFAULT_WORKERS: u32 = 4;
+
+/// The bytes that cached values may take where the words say none.
+pub const DEFAULT_BUDGET: u64 = 536_870_912;
+
+/// The number of a generated project where the words say none.
+pub const DEFAULT_NUMBER: u32 = 1;
+
+/// What the words of the command line ask for. `from` and `to` are the first and the last frame, both included; where
+/// there is no `to`, the last frame of the root is the last. The rules of the words are this project's own.
+#[derive(Clone, Copy, Debug, Drop, PartialEq, Eq)]
+pub struct Settings {
+    pub mode: RunMode,
+    pub workers: u32,
+    pub from: u32,
+    pub to: Option<u32>,
+    pub budget: u64,
+    pub number: u32,
+}
+
+/// What a run is to do.
+#[derive(Clone, Copy, Debug, Drop, PartialEq, Eq)]
+pub enum RunMode {
+    /// Write the file of the frames.
+    Render,
+}

@@ -1,0 +1,11 @@
+//! Tests of the host's program and of what it stands on, through their public calls.
+#![tactic(auto)]
+
+#[cfg(test)]
+mod drawn;
+#[cfg(test)]
+mod files;
+#[cfg(test)]
+mod outside;
+#[cfg(test)]
+mod runs;
