@@ -1,7 +1,11 @@
 -- Histories: lists of entries, and the core that they leave.
-use Rattle.std.specs.Prelude.{ℕ, ◌≡◌, ◌+◌, ◌<◌, List, [], ◌∷◌, Option, Some, None, IsSome, option_and_then, length, take}
+use Rattle.std.specs.Prelude.{ℕ, ◌≡◌, ◌+◌, ◌^◌, ◌<◌, List, [], ◌∷◌, Option, Some, None, IsSome, option_and_then, length, take}
 use Rattle.cache_core.specs.Core.{Core, empty_core, step}
 use Rattle.cache_core.specs.declared.entry.Entry.{Entry}
+
+-- a history in the program has fewer entries than this
+abbrev pub history_limit : ℕ
+history_limit = 2 ^ 62
 
 -- the core after entries, each of which steps from what those before it leave
 abbrev pub run : Core → List Entry → Option Core

@@ -7,6 +7,9 @@ use crate::step::{Core, CoreError};
 use std::alloc::Global;
 use thiserror::Error;
 
+/// A history has fewer entries than this: what keeps one refuses room earlier.
+pub const HISTORY_LIMIT: u64 = 1 << 62;
+
 /// Why a history was not replayed.
 #[derive(Clone, Copy, Debug, PartialEq, Eq, Error)]
 pub enum ReplayError {

@@ -11,7 +11,7 @@ mod row;
 mod step;
 
 pub use entry::{Act, Entry};
-pub use history::{ReplayError, replay};
+pub use history::{HISTORY_LIMIT, ReplayError, replay};
 pub use holders::Holders;
 pub use laws::{
     exceeds_only_without_idle, held_is_not_evicted, legal_counts, rows_are_distinct,

@@ -1,8 +1,8 @@
 -- What an entry makes of a ledger.
-use Rattle.std.proofs.Common.{◌≡◌, ℕ, zero, suc, ◌+◌, ◌^◌, ◌≤◌, Bool, true, false, cond, List, [], ◌∷◌, ◌++◌, length, set, refl, sym, ap, ap₂, ◌∙◌, subst₂, arith, length-append, eqb-true, nat_eq, ◌||◌, not, one-add, ltb, lt-ltb}
+use Rattle.std.proofs.Common.{◌≡◌, ℕ, zero, suc, ◌+◌, ◌^◌, ◌≤◌, Bool, true, false, cond, List, [], ◌∷◌, ◌++◌, length, set, refl, sym, ap, ap₂, ◌∙◌, subst₂, arith, length-append, eqb-true, nat_eq, ◌||◌, not, ◌-◌, subst, one-add, ltb, lt-ltb}
 use Rattle.std.specs.Prelude.{Option, Some, None, map, position, remove, slice_get, option_map, sum_by, find}
 use Rattle.std.specs.Option.{option_map_or}
-use Rattle.std.specs.List.{list_any, position_or_len}
+use Rattle.std.specs.List.{list_any, position_or_len, AllByRecursion}
 use Rattle.std.proofs.lemmas.Bool.{and_parts}
 use Rattle.std.proofs.lemmas.List.Quantifiers.{position-Some}
 use Rattle.cache_core.specs.Holds.{without_one}
@@ -19,9 +19,9 @@ use Rattle.cache_core.specs.declared.row.State.{State}
 use Rattle.cache_core.proofs.Firsts.{place_from_position}
 use Rattle.cache_core.proofs.Runs.{replay-push}
 use Rattle.cache_core.proofs.Touching.{remove-set}
-use Rattle.cache_table.specs.Kept.{Kept, is_kept, is_kept_idle, changed_at, moved_last}
-use Rattle.cache_table.specs.Cache.{needs, need_of, is_any_live}
-use Rattle.cache_table.specs.Ledger.{core_from, sizes, IsLedger}
+use Rattle.cache_table.specs.Kept.{Kept, is_kept, is_kept_idle, changed_at, moved_last, with_state, touched_kept, without_kept}
+use Rattle.cache_table.specs.Cache.{needs, need_of, is_any_live, IsValued, IsKept}
+use Rattle.cache_table.specs.Ledger.{core_from, sizes, HasRoom, IsLedger}
 use Rattle.cache_table.proofs.Slotted.{position-map, slice_get-map, remove-map, map-append, some_from, some_at, length-map}
 
 slice_get-set : {X : Type 0} (xs : List X) (i : ℕ) (x y : X) → slice_get xs i ≡ Some x → slice_get (set xs i y) i ≡ Some y
@@ -38,10 +38,41 @@ sum-removed f xs i x at = ap (λ y. sum_by f (remove xs i) + f y) (sym (get_or_f
 pub sum-touched : {X : Type 0} (f : X → ℕ) (xs : List X) (i : ℕ) (x y : X) → slice_get xs i ≡ Some x → sum_by f (remove xs i ++ y ∷ []) + f x ≡ sum_by f xs + f y
 sum-touched f xs i x y at = omega (arith, sum-last f (remove xs i) y, sum-removed f xs i x at)
 
+-- a fact of all items
+pub all-at : {X : Type 0} (P : X → Type 0) (xs : List X) (i : ℕ) (x : X) → AllByRecursion P xs → slice_get xs i ≡ Some x → P x
+all-at P [] i x all at = absurd (cc)
+all-at P (y ∷ xs) zero x all at = let same : y ≡ x = cc in subst P same all.0
+all-at P (y ∷ xs) (suc i) x all at = all-at P xs i x all.1 at
+
+pub all-last : {X : Type 0} (P : X → Type 0) (xs : List X) (x : X) → AllByRecursion P xs → P x → AllByRecursion P (xs ++ x ∷ [])
+all-last P [] x all is = (is, tt)
+all-last P (y ∷ xs) x all is = (all.0, all-last P xs x all.1 is)
+
+pub all-remove : {X : Type 0} (P : X → Type 0) (xs : List X) (i : ℕ) → AllByRecursion P xs → AllByRecursion P (remove xs i)
+all-remove P [] zero all = tt
+all-remove P [] (suc i) all = tt
+all-remove P (y ∷ xs) zero all = all.1
+all-remove P (y ∷ xs) (suc i) all = (all.0, all-remove P xs i all.1)
+
 module _ {V : Type 0} where
+  -- a hold more or less leaves a row its value
+  pub held_valued : (pass : ℕ) (k : Kept V) → IsValued k → IsValued (with_state (held_by pass) k)
+  held_valued pass k is = by k.row.state ∙ is
+    where
+      by : (state : State) → is_any_live (held_by pass state) ≡ is_any_live state
+      by (Running owner) = refl
+      by (Live serial size holders) = refl
+
+  pub released_valued : (pass : ℕ) (k : Kept V) → IsValued k → IsValued (with_state (released_by pass) k)
+  released_valued pass k is = by k.row.state ∙ is
+    where
+      by : (state : State) → is_any_live (released_by pass state) ≡ is_any_live state
+      by (Running owner) = refl
+      by (Live serial size holders) = refl
+
   -- a row that is changed and moved last
-  pub touched_kept : (change : Kept V → Kept V) (rows : List (Kept V)) (i : ℕ) (k : Kept V) → slice_get rows i ≡ Some k → moved_last i (changed_at change i rows) ≡ remove rows i ++ change k ∷ []
-  touched_kept change rows i k at =
+  pub touched_last : (change : Kept V → Kept V) (rows : List (Kept V)) (i : ℕ) (k : Kept V) → slice_get rows i ≡ Some k → moved_last i (changed_at change i rows) ≡ remove rows i ++ change k ∷ []
+  touched_last change rows i k at =
       let written : changed_at change i rows ≡ set rows i (change k) = ap (λ o. option_map_or (λ k. set rows i (change k)) o rows) at in
       ap (moved_last i) written
       ∙ ap (λ o. option_map_or (λ l. remove (set rows i (change k)) i ++ l ∷ []) o (set rows i (change k))) (slice_get-set rows i k (change k) at)
@@ -55,6 +86,17 @@ module _ {V : Type 0} where
   found class key rows i k at =
       let place = place_from_position (is_named class key) (map (λ kept. kept.row) rows) i (position-map (λ (kept : Kept V). kept.row) (is_named class key) (is_kept class key) (λ kept. refl) rows ∙ at.place) in
       place.found ∙ slice_get-map (λ (kept : Kept V). kept.row) rows i ∙ ap (option_map (λ (kept : Kept V). kept.row)) at.item
+
+  -- the rows without the row of a class and key, and with it changed and last
+  pub without_at : (class key : ℕ) (rows : List (Kept V)) (i : ℕ) → position (is_kept class key) rows ≡ Some i → remove rows i ≡ without_kept class key rows
+  without_at class key rows i place = sym (place_from_position (is_kept class key) rows i place).rest
+
+  pub touched_at : (class key : ℕ) (change : Kept V → Kept V) (rows : List (Kept V)) (i : ℕ) (k : Kept V) → IsAt class key rows i k → moved_last i (changed_at change i rows) ≡ touched_kept class key change rows
+  touched_at class key change rows i k at =
+      let place = place_from_position (is_kept class key) rows i at.place in
+      touched_last change rows i k at.item
+      ∙ ap (λ l. l ++ change k ∷ []) (without_at class key rows i at.place)
+      ∙ sym (ap (λ o. option_map_or (λ kept. without_kept class key rows ++ change kept ∷ []) o rows) (place.found ∙ at.item))
 
   -- the state of the row of a class and key
   pub state_found : (class key : ℕ) (rows : List (Kept V)) (i : ℕ) (k : Kept V) → IsAt class key rows i k → state_of class key (map (λ kept. kept.row) rows) ≡ Some k.row.state
@@ -90,16 +132,17 @@ module _ {V : Type 0} where
       → IsLedger budget history rows live owed len capacity
       → may_step (core_from budget history rows) entry ≡ true
       → map (λ kept. kept.row) new ≡ rows_after entry.pass entry.class entry.key entry.act (map (λ kept. kept.row) rows)
-      → live' ≡ sizes new → live' ≤ live + 2 ^ 32 → owed' ≡ needs new → len' ≡ len + 1 → len' + owed' ≤ capacity'
+      → live' ≡ sizes new → live' ≤ live + 2 ^ 32 → owed' ≡ needs new → AllByRecursion IsValued new → len' ≡ len + 1 → HasRoom (len' + owed') capacity'
       → history' ≡ history ++ entry ∷ [] → rows' ≡ new
       → IsLedger budget history' rows' live' owed' len' capacity'
-  ledger_more budget history history' rows rows' new live owed len capacity live' owed' len' capacity' entry ledger may after live_is small owed_is len_is room h r =
+  ledger_more budget history history' rows rows' new live owed len capacity live' owed' len' capacity' entry ledger may after live_is small owed_is valued len_is room h r =
       let count : length (history ++ entry ∷ []) ≡ length history + 1 = omega (arith, length-append history (entry ∷ [])) in
       let more : IsLedger budget (history ++ entry ∷ []) new live' owed' len' capacity' = record {
         legal = legal_more budget history rows new entry ledger.legal may after;
         live_is = live_is;
         small = omega (arith, count, ledger.small, small);
         owed_is = owed_is;
+        valued = valued;
         len_is = omega (arith, count, ledger.len_is, len_is);
         room = room;
       } in
@@ -116,6 +159,20 @@ item_from {X = X} {Y = Y} f xs i y e = by (slice_get xs i) refl e
 -- what is known of the item at a place
 pub same_item : {X Y : Type 0} (f : X → Y) (xs : List X) (i : ℕ) (x : X) (y : Y) → slice_get xs i ≡ Some x → option_map f (slice_get xs i) ≡ Some y → f x ≡ y
 same_item f xs i x y at e = some_from (sym (ap (option_map f) at) ∙ e)
+
+-- room for no more entries, in no less
+pub room_in : (n m capacity capacity' : ℕ) → HasRoom n capacity → m ≤ n → capacity ≤ capacity' → HasRoom m capacity'
+room_in n m capacity capacity' room less more = record { few = omega (arith, room.few, less); within = omega (arith, room.within, less, more) }
+
+-- what an invariant shows
+pub kept_from : {V : Type 0} (budget : ℕ) (history : List Entry) (rows : List (Kept V)) (live owed len capacity : ℕ) → IsLedger budget history rows live owed len capacity
+    → IsKept (record { budget = budget; history = history; rows = rows; spare = capacity - len })
+kept_from budget history rows live owed len capacity ledger = record {
+  legal = ledger.legal;
+  few = omega (arith, ledger.room.few, ledger.len_is);
+  valued = ledger.valued;
+  room = omega (arith, ledger.owed_is, ledger.room.within);
+}
 
 module _ {V : Type 0} where
   -- the class and key of the row at a place
@@ -146,15 +203,17 @@ module _ {V : Type 0} where
       → (change k).row ≡ row_in entry.class entry.key (g k.row.state)
       → live' + size_of k.row.state ≡ live + size_of (change k).row.state → live' ≤ live + 2 ^ 32
       → owed' + need_of k.row.state ≡ owed + need_of (change k).row.state
-      → len' ≡ len + 1 → len' + owed' ≤ capacity'
+      → (IsValued k → IsValued (change k))
+      → len' ≡ len + 1 → HasRoom (len' + owed') capacity'
       → history' ≡ history ++ entry ∷ [] → rows' ≡ moved_last i (changed_at change i rows)
       → IsLedger budget history' rows' live' owed' len' capacity'
-  ledger_touched budget history history' rows rows' live owed len capacity live' owed' len' capacity' entry i k change g ledger at may after is live_is small owed_is len_is room h r =
+  ledger_touched budget history history' rows rows' live owed len capacity live' owed' len' capacity' entry i k change g ledger at may after is live_is small owed_is valued len_is room h r =
       ledger_more budget history history' rows rows' (remove rows i ++ change k ∷ []) live owed len capacity live' owed' len' capacity' entry ledger may
       (rows-touched entry.class entry.key g rows i k (change k) at is ∙ sym after)
       (omega (arith, live_is, ledger.live_is, sum-touched (λ (kept : Kept V). size_of kept.row.state) rows i k (change k) at.item)) small
-      (omega (arith, owed_is, ledger.owed_is, sum-touched (λ (kept : Kept V). need_of kept.row.state) rows i k (change k) at.item)) len_is room h
-      (r ∙ touched_kept change rows i k at.item)
+      (omega (arith, owed_is, ledger.owed_is, sum-touched (λ (kept : Kept V). need_of kept.row.state) rows i k (change k) at.item))
+      (all-last IsValued (remove rows i) (change k) (all-remove IsValued rows i ledger.valued) (valued (all-at IsValued rows i k ledger.valued at.item))) len_is room h
+      (r ∙ touched_last change rows i k at.item)
 
   -- a ledger in which a row went
   pub ledger_removed : (budget : ℕ) (history history' : List Entry) (rows rows' : List (Kept V)) (live owed len capacity live' owed' len' capacity' : ℕ) (entry : Entry)
@@ -165,14 +224,14 @@ module _ {V : Type 0} where
       → rows_after entry.pass entry.class entry.key entry.act (map (λ kept. kept.row) rows) ≡ without entry.class entry.key (map (λ kept. kept.row) rows)
       → live' + size_of k.row.state ≡ live
       → owed' + need_of k.row.state ≡ owed
-      → len' ≡ len + 1 → len' + owed' ≤ capacity'
+      → len' ≡ len + 1 → HasRoom (len' + owed') capacity'
       → history' ≡ history ++ entry ∷ [] → rows' ≡ remove rows i
       → IsLedger budget history' rows' live' owed' len' capacity'
   ledger_removed budget history history' rows rows' live owed len capacity live' owed' len' capacity' entry i k ledger at may after live_is owed_is len_is room h r =
       ledger_more budget history history' rows rows' (remove rows i) live owed len capacity live' owed' len' capacity' entry ledger may
       (rows-removed entry.class entry.key rows i k at ∙ sym after)
       (omega (arith, live_is, ledger.live_is, sum-removed (λ (kept : Kept V). size_of kept.row.state) rows i k at.item)) (omega (arith, live_is))
-      (omega (arith, owed_is, ledger.owed_is, sum-removed (λ (kept : Kept V). need_of kept.row.state) rows i k at.item)) len_is room h r
+      (omega (arith, owed_is, ledger.owed_is, sum-removed (λ (kept : Kept V). need_of kept.row.state) rows i k at.item)) (all-remove IsValued rows i ledger.valued) len_is room h r
 
 -- a state of each kind
 pub running_is : (pass : ℕ) (state : State) → is_running pass state ≡ true → (need_of state ≡ 3) × (size_of state ≡ 0)

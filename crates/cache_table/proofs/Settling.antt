@@ -16,7 +16,7 @@ use Rattle.cache_core.specs.declared.entry.Entry.{Entry}
 use Rattle.cache_table.proofs.Values.{has-last, has-held, has-at, has-touched}
 use Rattle.cache_table.specs.Ledger.{sizes}
 use Rattle.cache_table.proofs.Slotted.{position-map, map-append, some_at, some_from}
-use Rattle.cache_table.proofs.Keeping.{IsAt, state_found, rows-removed, touched_kept, item_from, same_item, named_at, sum-last, sum-touched, sum-removed, running_is, held_is, idle_place}
+use Rattle.cache_table.proofs.Keeping.{IsAt, state_found, rows-removed, touched_last, item_from, same_item, named_at, sum-last, sum-touched, sum-removed, running_is, held_is, idle_place}
 use Rattle.cache_table.proofs.Acting.{state_absent}
 
 -- what follows of an answer
@@ -71,7 +71,7 @@ module _ {V : Type 0} where
       let k = item.0 in
       let k' = with_state (held_by pass) k in
       let at : IsAt class key rows i k = record { place = place; item = item.1 } in
-      let is : new ≡ remove rows i ++ k' ∷ [] = made ∙ touched_kept (with_state (held_by pass)) rows i k item.1 in
+      let is : new ≡ remove rows i ++ k' ∷ [] = made ∙ touched_last (with_state (held_by pass)) rows i k item.1 in
       let plain = map (λ (kept : Kept V). kept.row) rows in
       let rest = rows-removed class key rows i k at in
       settled_from budget plain (map (λ kept. kept.row) new) settled

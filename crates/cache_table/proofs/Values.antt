@@ -6,7 +6,7 @@ use Rattle.cache_core.specs.Rows.{held_by, released_by}
 use Rattle.cache_core.specs.declared.row.State.{State}
 use Rattle.cache_core.specs.declared.row.State.TheVariants.{Running, Live}
 use Rattle.cache_table.specs.Kept.{Kept, serial_value, IsWith, HasValue, changed_at, moved_last, with_state}
-use Rattle.cache_table.proofs.Keeping.{touched_kept}
+use Rattle.cache_table.proofs.Keeping.{touched_last}
 
 module _ {V : Type 0} (c k s : ℕ) (v : V) where
   pub has-remove : (rows : List (Kept V)) (i : ℕ) → HasValue c k s v (remove rows i) → HasValue c k s v rows
@@ -38,7 +38,7 @@ module _ {V : Type 0} (c k s : ℕ) (v : V) where
           let same : new ≡ rows = made ∙ ap (moved_last i) written ∙ ap (λ o. option_map_or (λ l. remove rows i ++ l ∷ []) o rows) at in
           inl (subst (HasValue c k s v) same h)
       by (Some x) at =
-          elim (has-last (remove rows i) (change x) (subst (HasValue c k s v) (made ∙ touched_kept change rows i x at) h)) [
+          elim (has-last (remove rows i) (change x) (subst (HasValue c k s v) (made ∙ touched_last change rows i x at) h)) [
             | inl before ↦ inl (has-remove rows i before)
             | inr last ↦ inr (x, at, last)
           ]

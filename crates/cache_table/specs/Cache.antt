@@ -1,15 +1,15 @@
 -- What contracts see of a table: its history, its rows with their values, and room for more history.
-use Rattle.std.specs.Prelude.{ℕ, ◌≡◌, ◌+◌, ◌≤◌, ◌⊎◌, Bool, true, false, List, [], ◌∷◌, ◌++◌, length, map, sum_by, Option, Some, ⊤}
+use Rattle.std.specs.Prelude.{ℕ, ◌≡◌, ◌+◌, ◌<◌, ◌≤◌, ◌⊎◌, Bool, true, false, List, [], ◌∷◌, ◌++◌, length, map, sum_by, Option, Some, is_some, ⊤}
 use Rattle.std.specs.List.{AllByRecursion}
 use Rattle.cache_core.specs.Rows.{state_of}
 use Rattle.cache_core.specs.Core.{Core}
-use Rattle.cache_core.specs.History.{replay_of}
+use Rattle.cache_core.specs.History.{replay_of, history_limit}
 use Rattle.cache_core.specs.declared.entry.Entry.{Entry}
 use Rattle.cache_core.specs.declared.entry.Act.{Act}
 use Rattle.cache_core.specs.declared.entry.Act.TheVariants.{Start, Hit, Pending, NotCached, Finish, Abandon, Give, Evict}
 use Rattle.cache_core.specs.declared.row.State.{State}
 use Rattle.cache_core.specs.declared.row.State.TheVariants.{Running, Live}
-use Rattle.cache_table.specs.Kept.{Kept, HasValue}
+use Rattle.cache_table.specs.Kept.{Kept, HasValue, rows_left}
 
 -- a budget, a history, the rows with their values, the least recently touched first, and how many entries more
 -- the history has room for
@@ -58,9 +58,16 @@ module _ {V : Type 0} where
   abbrev pub needs : List (Kept V) → ℕ
   needs rows = sum_by (λ kept. need_of kept.row.state) rows
 
-  -- the history is legal and leaves the core, and there is room for all that must follow
+  -- a row has a value exactly where it is Live
+  abbrev pub IsValued : Kept V → Type 0
+  IsValued kept = is_any_live kept.row.state ≡ is_some kept.value
+
+  -- the history is legal, leaves the core and is below the limit; each Live row has its value; and there is room for
+  -- all that must follow
   pub record IsKept (cache : Cache V) : Type 0 where
     pub legal : replay_of cache.budget cache.history ≡ Some (core_of cache)
+    pub few : length cache.history < history_limit
+    pub valued : AllByRecursion IsValued cache.rows
     pub room : needs cache.rows ≤ cache.spare
 
   -- no value is new
@@ -85,9 +92,10 @@ module _ {V : Type 0} where
     pub budget : new.budget ≡ old.budget
     pub history : new.history ≡ old.history ++ entry ∷ []
 
-  -- one entry more, and then evictions by its pass
-  pub record AddsAndEvicts (old new : Cache V) (entry : Entry) : Type 0 where
+  -- one entry more, which leaves these rows, and then evictions by its pass
+  pub record AddsAndEvicts (old new : Cache V) (entry : Entry) (left : List (Kept V)) : Type 0 where
     pub budget : new.budget ≡ old.budget
     pub evicts : List Entry
     pub history : new.history ≡ old.history ++ entry ∷ evicts
     pub each : AllByRecursion (IsEvictBy entry.pass) evicts
+    pub rows : new.rows ≡ rows_left evicts left

@@ -1,7 +1,9 @@
 -- The rows of a cache with their values.
-use Rattle.std.specs.Prelude.{ℕ, ◌≡◌, ◌⊎◌, Bool, List, [], ◌∷◌, ◌++◌, slice_get, slice_set, remove, Option, Some, None, option_map}
+use Rattle.std.specs.Prelude.{ℕ, ◌≡◌, ◌⊎◌, Bool, List, [], ◌∷◌, ◌++◌, slice_get, slice_set, remove, find, Option, Some, None, option_map}
 use Rattle.std.specs.Option.{option_map_or}
+use Rattle.cache_core.specs.Holds.{without_first}
 use Rattle.cache_core.specs.Rows.{is_named, is_idle, row_in}
+use Rattle.cache_core.specs.declared.entry.Entry.{Entry}
 use Rattle.cache_core.specs.declared.row.Row.{Row}
 use Rattle.cache_core.specs.declared.row.State.{State}
 use Rattle.cache_core.specs.declared.row.State.TheVariants.{Running, Live}
@@ -29,6 +31,24 @@ module _ {V : Type 0} where
   abbrev pub HasValue : ℕ → ℕ → ℕ → V → List (Kept V) → Type 0
   HasValue class key serial value [] = ⊥
   HasValue class key serial value (kept ∷ rows) = IsWith class key serial value kept ⊎ HasValue class key serial value rows
+
+  -- a row that is computed, and so has no value
+  abbrev pub kept_running : ℕ → ℕ → ℕ → Kept V
+  kept_running pass class key = record { row = row_in class key (Running pass); value = None }
+
+  -- the rows without that of a class and key
+  abbrev pub without_kept : ℕ → ℕ → List (Kept V) → List (Kept V)
+  without_kept class key rows = without_first (is_kept class key) rows
+
+  -- the row of a class and key is changed, and goes last
+  abbrev pub touched_kept : ℕ → ℕ → (Kept V → Kept V) → List (Kept V) → List (Kept V)
+  touched_kept class key change rows =
+      option_map_or (λ kept. without_kept class key rows ++ change kept ∷ []) (find (is_kept class key) rows) rows
+
+  -- the rows that evictions leave
+  abbrev pub rows_left : List Entry → List (Kept V) → List (Kept V)
+  rows_left [] rows = rows
+  rows_left (evict ∷ evicts) rows = rows_left evicts (without_kept evict.class evict.key rows)
 
   -- the row at a place is changed
   abbrev pub changed_at : (Kept V → Kept V) → ℕ → List (Kept V) → List (Kept V)

@@ -5,12 +5,13 @@ ghost use Rattle.cache_core.specs.Core.{IsSettled, may_step, rows_after, is_sett
 ghost use Rattle.cache_core.specs.declared.row.State.TheVariants.{Running as IsRunning, Live as IsLive};
 ghost use Rattle.cache_core.specs.declared.entry.Act.TheVariants.{Start, Hit, Finish, Abandon, Give, Evict};
 ghost use Rattle.cache_core.specs.declared.entry.Entry.{Entry};
-ghost use Rattle.cache_table.specs.Kept.{is_kept, with_state, with_value, is_kept_idle, changed_at, moved_last, serial_value};
+ghost use Rattle.cache_table.specs.Kept.{is_kept, with_state, with_value, is_kept_idle, kept_running, without_kept, changed_at, moved_last, serial_value};
 ghost use Rattle.cache_table.specs.Cache.{core_of, IsKept, IsSame, Adds, IsEvictBy, is_any_live};
+ghost use Rattle.cache_table.specs.Ledger.{HasRoom};
 
 use crate::phase::{Seen, Turn};
 use crate::rows::Rows;
-use cache_core::{Act, Entry};
+use cache_core::{Act, Entry, HISTORY_LIMIT};
 use host_io::Memory;
 use std::alloc::Global;
 use std::marker::Model;
@@ -41,17 +42,19 @@ impl<V> Model for Ledger<V> {
     ghost invariant = { λ l. IsLedger l.budget l.history.items l.rows l.live l.owed (vec_len l.history) (vec_capacity l.history) };
 }
 
-// Makes room for the entries that must follow, and for so many more.
+// Makes room for the entries that must follow, and for so many more. It is refused where they could reach the limit.
 fn reserve(history: &mut Vec<Entry>, owed: usize, more: usize) -> Result<(), Memory>
     ensures items { history.new.items ≡ history.old.items }
     ensures len { vec_len history.new ≡ vec_len history.old }
-    ensures room { OnOk result (vec_len history.new + (owed + more) ≤ vec_capacity history.new) }
+    ensures room { OnOk result (HasRoom (vec_len history.new + (owed + more)) (vec_capacity history.new)) }
     ensures capacity { vec_capacity history.old ≤ vec_capacity history.new }
 {
-    match owed.checked_add(more) {
-        Some(entries) => Ok(history.reserve(entries)?),
-        None => Err(Memory),
+    let entries = owed.checked_add(more).ok_or(Memory)?;
+    let all = history.len().checked_add(entries).ok_or(Memory)?;
+    if all as u64 >= HISTORY_LIMIT {
+        return Err(Memory);
     }
+    Ok(history.reserve(entries)?)
 }
 
 impl<V: Drop> Ledger<V> {
@@ -126,11 +129,12 @@ impl<V: Drop> Ledger<V> {
         requires settled { IsSettled (core_of self.old) }
         requires absent { position (is_kept class key) self.old.rows ≡ None }
         ensures adds { OnOk result (Adds self.old self.new (record { pass = pass; class = class; key = key; act = Start })) }
-        ensures rows { OnOk result (self.new.rows ≡ self.old.rows ++ record { row = row_in class key (IsRunning pass); value = None } ∷ []) }
+        ensures kept { IsKept self.new }
+        ensures rows { OnOk result (self.new.rows ≡ self.old.rows ++ kept_running pass class key ∷ []) }
         ensures err { OnErr result (IsSame self.old self.new) }
     {
-        let turn = Turn::new(alloc, pass)?;
         reserve(&mut self.history, self.owed, 4)?;
+        let turn = Turn::new(alloc, pass)?;
         self.rows.add(class, key, turn)?;
         self.history.push_reserved(Entry {
             pass,
@@ -154,6 +158,7 @@ impl<V: Drop> Ledger<V> {
         requires at { position (is_kept class key) self.old.rows ≡ Some place }
         requires live { option_map (λ kept. is_any_live kept.row.state) (slice_get self.old.rows place) ≡ Some true }
         ensures adds { IfOk result (λ taken. Adds self.old self.new (record { pass = pass; class = class; key = key; act = Hit taken.0 })) }
+        ensures kept { IsKept self.new }
         ensures rows { OnOk result (self.new.rows ≡ moved_last place (changed_at (with_state (held_by pass)) place self.old.rows)) }
         ensures value { IfOk result (λ taken. option_and_then (λ kept. serial_value kept.row.state kept.value) (slice_get self.old.rows place) ≡ Some (taken.0, arc_value taken.1)) }
         ensures err { OnErr result (IsSame self.old self.new) }
@@ -177,6 +182,7 @@ impl<V: Drop> Ledger<V> {
         requires steps { may_step (core_of self.old) entry ≡ true }
         requires plain { rows_after entry.pass entry.class entry.key entry.act (core_of self.old).rows ≡ (core_of self.old).rows }
         ensures adds { OnOk result (Adds self.old self.new entry) }
+        ensures kept { IsKept self.new }
         ensures rows { OnOk result (self.new.rows ≡ self.old.rows) }
         ensures err { OnErr result (IsSame self.old self.new) }
     {
@@ -200,6 +206,7 @@ impl<V: Drop> Ledger<V> {
         requires running { option_map (λ kept. is_running pass kept.row.state) (slice_get self.old.rows place) ≡ Some true }
         ensures serial { result ≡ length self.old.history }
         ensures adds { Adds self.old self.new (record { pass = pass; class = class; key = key; act = Finish result size }) }
+        ensures kept { IsKept self.new }
         ensures rows { self.new.rows ≡ moved_last place (changed_at (with_value (IsLive result size (pass ∷ [])) (arc_value value)) place self.old.rows) }
     {
         let serial = self.history.as_slice().len() as u64;
@@ -222,6 +229,7 @@ impl<V: Drop> Ledger<V> {
         requires at { position (is_kept class key) self.old.rows ≡ Some place }
         requires running { option_map (λ kept. is_running pass kept.row.state) (slice_get self.old.rows place) ≡ Some true }
         ensures adds { Adds self.old self.new (record { pass = pass; class = class; key = key; act = Abandon }) }
+        ensures kept { IsKept self.new }
         ensures rows { self.new.rows ≡ remove self.old.rows place }
     {
         self.rows.take_out(place);
@@ -240,6 +248,7 @@ impl<V: Drop> Ledger<V> {
         requires at { position (is_kept class key) self.old.rows ≡ Some place }
         requires held { option_map (λ kept. is_held_by pass kept.row.state) (slice_get self.old.rows place) ≡ Some true }
         ensures adds { (serial : ℕ) × (option_map (λ kept. is_live serial kept.row.state) (slice_get self.old.rows place) ≡ Some true) × Adds self.old self.new (record { pass = pass; class = class; key = key; act = Give serial }) }
+        ensures kept { IsKept self.new }
         ensures rows { self.new.rows ≡ moved_last place (changed_at (with_state (released_by pass)) place self.old.rows) }
     {
         let serial = self.rows.phase(place).serial();
@@ -258,7 +267,8 @@ impl<V: Drop> Ledger<V> {
     pub(crate) fn evict(&mut self, pass: u32, place: usize)
         requires over { is_settled (core_of self.old).budget (core_of self.old).rows ≡ false }
         requires first { position is_kept_idle self.old.rows ≡ Some place }
-        ensures adds { (entry : Entry) × IsEvictBy pass entry × Adds self.old self.new entry }
+        ensures adds { (entry : Entry) × IsEvictBy pass entry × Adds self.old self.new entry × (self.new.rows ≡ without_kept entry.class entry.key self.old.rows) }
+        ensures kept { IsKept self.new }
         ensures rows { self.new.rows ≡ remove self.old.rows place }
     {
         let name = self.rows.name(place);

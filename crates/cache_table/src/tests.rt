@@ -9,6 +9,8 @@ use host_io::Memory;
 use std::alloc::Global;
 use std::sync::Arc;
 use std::test::Fail;
+use std::thread;
+use std::thread::Threads;
 
 const A: u128 = 10;
 
@@ -58,9 +60,14 @@ fn drop_out(table: &mut Table<u32>, pass: u32, key: u128) -> bool {
 }
 
 // Takes, where there is a value.
-fn hit(table: &mut Table<u32>, pass: u32, key: u128) -> Result<Option<(u64, Arc<u32>)>, Memory> {
+fn hit(
+    alloc: Global,
+    table: &mut Table<u32>,
+    pass: u32,
+    key: u128,
+) -> Result<Option<(u64, Arc<u32>)>, Memory> {
     match table.look(0, key) {
-        Seen::Live { .. } => Ok(Some(table.take(pass, 0, key)?)),
+        Seen::Live { .. } => Ok(Some(table.take(alloc, pass, 0, key)?)),
         _ => Ok(None),
     }
 }
@@ -85,11 +92,10 @@ fn back(table: &mut Table<u32>, pass: u32, key: u128) -> bool {
 }
 
 // Notes that there is no row, where there is none.
-fn miss(table: &mut Table<u32>, pass: u32, key: u128) -> Result<bool, Memory> {
-    let _entries = table.history();
+fn miss(alloc: Global, table: &mut Table<u32>, pass: u32, key: u128) -> Result<bool, Memory> {
     match table.look(0, key) {
         Seen::No => {
-            table.note(entry(pass, key, Act::NotCached))?;
+            table.note(alloc, entry(pass, key, Act::NotCached))?;
             Ok(true)
         }
         _ => Ok(false),
@@ -136,7 +142,7 @@ fn two_values_of_which_one_fits(rt: HostRuntime) -> Result<(), Fail> {
     }
     assert_eq!(rt; table.look(0, B), Seen::No);
     assert_eq!(rt; table.look(0, A), Seen::Live { serial: 1 });
-    let (serial, value) = hit(&mut table, 1, A)?.ok_or("no value")?;
+    let (serial, value) = hit(rt.alloc(), &mut table, 1, A)?.ok_or("no value")?;
     assert_eq!(rt; serial, 1);
     assert_eq!(rt; *value, 7);
     Ok(())
@@ -145,7 +151,7 @@ fn two_values_of_which_one_fits(rt: HostRuntime) -> Result<(), Fail> {
 #[test]
 fn nothing_is_kept_without_budget(rt: HostRuntime) -> Result<(), Fail> {
     let mut table = Table::new(rt.alloc(), 0)?;
-    assert!(rt; miss(&mut table, 2, A)?);
+    assert!(rt; miss(rt.alloc(), &mut table, 2, A)?);
     assert!(rt; begin(rt.alloc(), &mut table, 0, A)?);
     assert!(rt; drop_out(&mut table, 0, A));
     assert!(rt; begin(rt.alloc(), &mut table, 0, A)?);
@@ -177,7 +183,7 @@ fn call(alloc: Global, table: &mut Table<u32>, turn: u32) -> Result<(), Memory> 
     let key = u128::from(turn.wrapping_mul(5) / 2 % 7);
     match table.look(0, key) {
         Seen::No if turn % 13 == 0 => {
-            miss(table, pass, key)?;
+            miss(alloc, table, pass, key)?;
         }
         Seen::No => {
             begin(alloc, table, pass, key)?;
@@ -190,7 +196,7 @@ fn call(alloc: Global, table: &mut Table<u32>, turn: u32) -> Result<(), Memory> 
         }
         Seen::Live { .. } => {
             if !back(table, pass, key) {
-                hit(table, pass, key)?;
+                hit(alloc, table, pass, key)?;
             }
         }
     }
@@ -222,5 +228,49 @@ fn calls_agree_with_the_core(rt: HostRuntime) -> Result<(), Fail> {
         }
     }
     assert!(rt; evicts > 20);
+    Ok(())
+}
+
+// The table's holds on a value, which end when the value leaves.
+#[test]
+fn values_that_leave_are_dropped(rt: HostRuntime) -> Result<(), Fail> {
+    let mut table = Table::new(rt.alloc(), 100)?;
+    let first = Arc::new(rt.alloc(), 7)?;
+    let second = Arc::new(rt.alloc(), 8)?;
+    assert!(rt; begin(rt.alloc(), &mut table, 0, A)?);
+    assert_eq!(rt; end(&mut table, 0, A, 60, Arc::try_clone(&first)?), Some(1));
+    assert_eq!(rt; Arc::strong_count(&first), 2);
+    assert!(rt; back(&mut table, 0, A));
+    assert_eq!(rt; Arc::strong_count(&first), 2);
+    assert!(rt; begin(rt.alloc(), &mut table, 0, B)?);
+    assert_eq!(rt;
+        end(&mut table, 0, B, 60, Arc::try_clone(&second)?),
+        Some(4)
+    );
+    assert_eq!(rt; Arc::strong_count(&first), 1);
+    assert_eq!(rt; Arc::strong_count(&second), 2);
+    assert!(rt; begin(rt.alloc(), &mut table, 0, A)?);
+    assert!(rt; drop_out(&mut table, 0, A));
+    drop(table);
+    assert_eq!(rt; Arc::strong_count(&second), 1);
+    Ok(())
+}
+
+// A table is made in one thread, used in another and handed back.
+#[test]
+fn table_moves_between_threads(rt: HostRuntime) -> Result<(), Fail> {
+    let mut table = Table::new(rt.alloc(), 100)?;
+    assert!(rt; begin(rt.alloc(), &mut table, 0, A)?);
+    let value = Arc::new(rt.alloc(), 7)?;
+    let child = thread::spawn(&rt, move || {
+        let serial = end(&mut table, 0, A, 60, value);
+        (table, serial)
+    });
+    let Ok(child) = child else {
+        return Err(Fail::from("no thread"));
+    };
+    let (table, serial) = child.join(&rt);
+    assert_eq!(rt; serial, Some(1));
+    assert_eq!(rt; table.look(0, A), Seen::Live { serial: 1 });
     Ok(())
 }

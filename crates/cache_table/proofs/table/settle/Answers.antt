@@ -1,8 +1,9 @@
-use Rattle.std.proofs.Common.{◌∙◌, ap, subst, ◌++◌, ◌∷◌, [], append_assoc}
+use Rattle.std.proofs.Common.{◌∙◌, sym, ap, subst, ◌++◌, ◌∷◌, [], append_assoc}
 use Rattle.cache_core.proofs.Serials.{all-push}
-use Rattle.cache_table.specs.Kept.{HasValue}
+use Rattle.cache_table.specs.Kept.{HasValue, without_kept}
 use Rattle.cache_table.specs.Cache.{IsEvictBy}
 use Rattle.cache_table.proofs.Values.{has-remove}
+use Rattle.cache_table.proofs.Owning.{left-more}
 use Rattle.cache_table.proofs.table.settle.Goals as goal
 
 pub loop-place-preserved : goal.loop-place-preserved
@@ -14,6 +15,8 @@ loop-place-preserved g c =
         before.1.0 ++ adds.0 ∷ [],
         all-push (IsEvictBy c.args.pass) before.1.0 adds.0 before.1.1 adds.1,
         adds.2.history ∙ ap (λ l. l ++ adds.0 ∷ []) before.1.2 ∙ append_assoc c.args.ledger.now.history before.1.0 (adds.0 ∷ []),
+        adds.3 ∙ ap (without_kept adds.0.class adds.0.key) before.1.3 ∙ sym (left-more before.1.0 adds.0 c.args.ledger.now.rows),
       ),
       λ class key serial value h. before.2 class key serial value (has-remove class key serial value c.loop-place.ledger.rows c.in-Some.place (subst (HasValue class key serial value) c.evict.ensures.rows h)),
+      c.evict.ensures.kept,
     )

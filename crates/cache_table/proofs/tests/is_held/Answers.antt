@@ -1,8 +1,6 @@
 use Rattle.cache_core.specs.Rows.{is_held_by}
 use Rattle.cache_core.specs.Core.{is_in}
 use Rattle.std.proofs.Common.{sym, ◌∙◌, ap}
-use Rattle.std.specs.Prelude.{Some}
-use Rattle.cache_table.specs.Seen.{seen_of}
 use Rattle.cache_table.proofs.Keeping.{same_item, state_found}
 use Rattle.cache_table.proofs.Acting.{state_absent}
 use Rattle.cache_table.specs.Cache.{state_at}

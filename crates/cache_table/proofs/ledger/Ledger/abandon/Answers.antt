@@ -1,10 +1,10 @@
-use Rattle.std.proofs.Common.{◌≡◌, true, sym, subst, arith, ◌-◌, ◌≤◌}
+use Rattle.std.proofs.Common.{◌≡◌, true, sym, subst, arith, ◌+◌, ◌-◌, ◌≤◌}
 use Rattle.std.specs.Prelude.{vec_len, vec_capacity, Some, position, option_map, slice_get}
 use Rattle.cache_core.specs.Rows.{is_running}
 use Rattle.cache_core.specs.Core.{is_settled}
 use Rattle.cache_table.specs.Kept.{is_kept}
 use Rattle.cache_table.specs.Cache.{core_of}
-use Rattle.cache_table.proofs.Keeping.{item_from, need_within, running_is}
+use Rattle.cache_table.proofs.Keeping.{kept_from, room_in, item_from, need_within, running_is}
 use Rattle.cache_table.proofs.Acting.{after_abandon}
 use Rattle.cache_table.proofs.ledger.Ledger.abandon.Goals as goal
 
@@ -19,4 +19,8 @@ invariant_of-self g c =
     after_abandon s.budget s.history.items c.push_reserved.new.self.items s.rows c.take_out.new.self s.live s.owed (vec_len s.history) (vec_capacity s.history)
     (s.owed - 3) (vec_len c.push_reserved.new.self) (vec_capacity c.push_reserved.new.self) c.args.pass c.args.class c.args.key c.args.place
     c.self.invariant settled at running (omega (arith, need)) c.push_reserved.ensures.len
-    (omega (arith, need, c.push_reserved.ensures.len, c.push_reserved.ensures.capacity, c.self.invariant.room)) c.push_reserved.ensures.items c.take_out.ensures
+    (room_in (vec_len s.history + s.owed) _ (vec_capacity s.history) _ c.self.invariant.room (omega (arith, need, c.push_reserved.ensures.len)) (omega (arith, c.push_reserved.ensures.capacity))) c.push_reserved.ensures.items c.take_out.ensures
+
+pub returns-clause-kept : goal.returns-clause-kept
+returns-clause-kept g c =
+    kept_from c.self.inside.budget c.push_reserved.new.self.items c.take_out.new.self c.self.inside.live (c.self.inside.owed - 3) (vec_len c.push_reserved.new.self) (vec_capacity c.push_reserved.new.self) (invariant_of-self g c)

@@ -2,12 +2,12 @@ use Rattle.std.proofs.Common.{◌≡◌, true, false, sym, ◌∙◌, ap, refl, 
 use Rattle.std.specs.Prelude.{vec_len, vec_capacity, Some, position, slice_get}
 use Rattle.cache_core.specs.Rows.{is_live, size_of}
 use Rattle.cache_core.specs.Core.{is_settled}
-use Rattle.cache_table.specs.Kept.{is_kept_idle}
+use Rattle.cache_table.specs.Kept.{is_kept_idle, without_kept}
 use Rattle.cache_table.specs.Cache.{core_of, is_any_live}
 use Rattle.cache_core.specs.declared.entry.Entry.{Entry}
 use Rattle.cache_table.specs.Slots.{state_in}
-use Rattle.cache_table.proofs.Keeping.{size_within, through, same_item, need_within, idle_is, idle_place}
-use Rattle.cache_table.proofs.Acting.{after_evict}
+use Rattle.cache_table.proofs.Keeping.{kept_from, room_in, size_within, through, same_item, need_within, idle_is, idle_place}
+use Rattle.cache_table.proofs.Acting.{after_evict, evicted_at}
 use Rattle.cache_core.specs.declared.entry.Act.TheVariants.{Evict}
 use Rattle.cache_table.proofs.ledger.Ledger.evict.Goals as goal
 
@@ -52,10 +52,12 @@ invariant_of-self g c =
     (through (is_live c.serial-serial.result) (λ kept. kept.row.state) (slice_get s.rows c.args.place) (state_in c.phase-phase.result.now) true c.phase-phase.ensures.state c.serial-serial.ensures)
     (through (λ state. s.live - c.from.result + size_of state) (λ kept. kept.row.state) (slice_get s.rows c.args.place) (state_in c.phase-phase.result.now) s.live c.phase-phase.ensures.state (omega (arith, within, size, ap size_of state)))
     (omega (arith, need)) c.push_reserved.ensures.len
-    (omega (arith, need, c.push_reserved.ensures.len, c.push_reserved.ensures.capacity, c.self.invariant.room)) c.push_reserved.ensures.items c.take_out.ensures
+    (room_in (vec_len s.history + s.owed) _ (vec_capacity s.history) _ c.self.invariant.room (omega (arith, need, c.push_reserved.ensures.len)) (omega (arith, c.push_reserved.ensures.capacity))) c.push_reserved.ensures.items c.take_out.ensures
 
 pub returns-clause-adds : goal.returns-clause-adds
 returns-clause-adds g c =
+    let s = c.self.inside in
+    let first = subst (λ s. position is_kept_idle s.rows ≡ Some c.args.place) (sym c.self.view_is) c.requires.first in
     let entry : Entry = record { pass = c.args.pass; class = c.name-name.result.class; key = c.name-name.result.key; act = Evict c.serial-serial.result } in (
       entry,
       (refl, (c.serial-serial.result, refl)),
@@ -63,4 +65,11 @@ returns-clause-adds g c =
         budget = ap (λ s. s.budget) c.self.view_is;
         history = c.push_reserved.ensures.items ∙ ap (λ s. s.history ++ entry ∷ []) c.self.view_is;
       },
+      c.take_out.ensures
+          ∙ evicted_at s.budget s.history.items s.rows s.live s.owed (vec_len s.history) (vec_capacity s.history) c.name-name.result.class c.name-name.result.key c.args.place c.self.invariant first c.name-name.ensures.class c.name-name.ensures.key
+          ∙ ap (λ s. without_kept c.name-name.result.class c.name-name.result.key s.rows) c.self.view_is,
     )
+
+pub returns-clause-kept : goal.returns-clause-kept
+returns-clause-kept g c =
+    kept_from c.self.inside.budget c.push_reserved.new.self.items c.take_out.new.self (c.self.inside.live - c.from.result) (c.self.inside.owed - 1) (vec_len c.push_reserved.new.self) (vec_capacity c.push_reserved.new.self) (invariant_of-self g c)

@@ -7,7 +7,7 @@ use Rattle.cache_table.specs.Cache.{core_of}
 use Rattle.std.specs.Prelude.{length}
 use Rattle.std.specs.Arc.{arc_value}
 use Rattle.cache_table.specs.Kept.{moved_last}
-use Rattle.cache_table.proofs.Keeping.{item_from, need_within, running_is}
+use Rattle.cache_table.proofs.Keeping.{kept_from, room_in, item_from, need_within, running_is}
 use Rattle.cache_table.proofs.Acting.{after_finish}
 use Rattle.cache_table.proofs.ledger.Ledger.finish.Goals as goal
 
@@ -19,7 +19,7 @@ push_reserved-requires g c =
     let running = subst (λ s. option_map (λ kept. is_running c.args.pass kept.row.state) (slice_get s.rows c.args.place) ≡ Some true) (sym c.self.view_is) c.requires.running in
     let item = item_from (λ kept. is_running c.args.pass kept.row.state) s.rows c.args.place true running in
     let need : 3 ≤ s.owed = omega (arith, need_within s.rows c.args.place item.0 item.1, running_is c.args.pass item.0.row.state item.2, c.self.invariant.owed_is) in
-    omega (arith, need, c.self.invariant.room)
+    omega (arith, need, c.self.invariant.room.within)
 
 pub overflow_sub-self : goal.overflow_sub-self
 overflow_sub-self g c =
@@ -43,5 +43,9 @@ invariant_of-self g c =
     (s.live + c.from.result) (s.owed - 1) (vec_len c.push_reserved.new.self) (vec_capacity c.push_reserved.new.self) c.args.pass c.args.class c.args.key (length c.as_slice.result.now) c.args.size c.args.place (arc_value c.args.value)
     c.self.invariant settled at running (ap length c.as_slice.ensures.value) (omega (arith, c.ranges.size.fits))
     (omega (arith, c.from.ensures)) (omega (arith, need)) c.push_reserved.ensures.len
-    (omega (arith, need, c.push_reserved.ensures.len, c.push_reserved.ensures.capacity, c.self.invariant.room)) c.push_reserved.ensures.items
+    (room_in (vec_len s.history + s.owed) _ (vec_capacity s.history) _ c.self.invariant.room (omega (arith, need, c.push_reserved.ensures.len)) (omega (arith, c.push_reserved.ensures.capacity))) c.push_reserved.ensures.items
     (c.move_last.ensures ∙ ap (moved_last c.args.place) c.finish.ensures)
+
+pub returns-clause-kept : goal.returns-clause-kept
+returns-clause-kept g c =
+    kept_from c.self.inside.budget c.push_reserved.new.self.items c.move_last.new.self (c.self.inside.live + c.from.result) (c.self.inside.owed - 1) (vec_len c.push_reserved.new.self) (vec_capacity c.push_reserved.new.self) (invariant_of-self g c)

@@ -1,4 +1,4 @@
-use Rattle.std.proofs.Common.{◌≡◌, true, sym, ◌∙◌, ap, subst, arith, ◌-◌, ◌≤◌}
+use Rattle.std.proofs.Common.{◌≡◌, true, sym, ◌∙◌, ap, subst, arith, ◌+◌, ◌-◌, ◌≤◌}
 use Rattle.std.specs.Prelude.{vec_len, vec_capacity, Some, position, option_map, slice_get}
 use Rattle.cache_core.specs.Rows.{is_live, is_held_by}
 use Rattle.cache_core.specs.Core.{is_settled}
@@ -6,7 +6,7 @@ use Rattle.cache_table.specs.Kept.{is_kept}
 use Rattle.cache_table.specs.Cache.{core_of}
 use Rattle.cache_table.specs.Kept.{moved_last}
 use Rattle.cache_table.specs.Slots.{state_in}
-use Rattle.cache_table.proofs.Keeping.{through, item_from, need_within, need_positive}
+use Rattle.cache_table.proofs.Keeping.{kept_from, room_in, through, item_from, need_within, need_positive}
 use Rattle.cache_table.proofs.Acting.{after_give}
 use Rattle.cache_table.proofs.ledger.Ledger.give.Goals as goal
 
@@ -18,7 +18,7 @@ push_reserved-requires g c =
     let held = subst (λ s. option_map (λ kept. is_held_by c.args.pass kept.row.state) (slice_get s.rows c.args.place) ≡ Some true) (sym c.self.view_is) c.requires.held in
     let item = item_from (λ kept. is_held_by c.args.pass kept.row.state) s.rows c.args.place true held in
     let need : 1 ≤ s.owed = omega (arith, need_within s.rows c.args.place item.0 item.1, need_positive item.0.row.state, c.self.invariant.owed_is) in
-    omega (arith, need, c.self.invariant.room)
+    omega (arith, need, c.self.invariant.room.within)
 
 pub overflow_sub-self : goal.overflow_sub-self
 overflow_sub-self g c =
@@ -43,5 +43,9 @@ invariant_of-self g c =
     c.self.invariant settled at held
     (through (is_live c.serial-serial.result) (λ kept. kept.row.state) (slice_get s.rows c.args.place) (state_in c.phase.result.now) true c.phase.ensures.state c.serial-serial.ensures)
     (omega (arith, need)) c.push_reserved.ensures.len
-    (omega (arith, need, c.push_reserved.ensures.len, c.push_reserved.ensures.capacity, c.self.invariant.room)) c.push_reserved.ensures.items
+    (room_in (vec_len s.history + s.owed) _ (vec_capacity s.history) _ c.self.invariant.room (omega (arith, need, c.push_reserved.ensures.len)) (omega (arith, c.push_reserved.ensures.capacity))) c.push_reserved.ensures.items
     (c.move_last.ensures ∙ ap (moved_last c.args.place) c.release.ensures)
+
+pub returns-clause-kept : goal.returns-clause-kept
+returns-clause-kept g c =
+    kept_from c.self.inside.budget c.push_reserved.new.self.items c.move_last.new.self c.self.inside.live (c.self.inside.owed - 1) (vec_len c.push_reserved.new.self) (vec_capacity c.push_reserved.new.self) (invariant_of-self g c)

@@ -6,7 +6,8 @@ use Rattle.cache_table.specs.Kept.{is_kept}
 use Rattle.cache_table.specs.Cache.{core_of, is_any_live}
 use Rattle.cache_table.specs.Kept.{moved_last}
 use Rattle.cache_table.specs.Slots.{state_in}
-use Rattle.cache_table.proofs.Keeping.{through}
+use Rattle.cache_table.proofs.Keeping.{kept_from, through}
+use Rattle.cache_table.proofs.Keeping.{room_in}
 use Rattle.cache_table.proofs.Acting.{after_hit}
 use Rattle.cache_core.specs.declared.entry.Act.TheVariants.{Hit}
 use Rattle.cache_table.proofs.ledger.Ledger.take.Goals as goal
@@ -23,6 +24,10 @@ invariant_of-self-2 g c =
     c.self.invariant settled at live
     (through (is_live serial) (λ kept. kept.row.state) (slice_get s.rows c.args.place) (state_in c.phase.result.now) true c.phase.ensures.state c.in_ok-serial.ensures.serial)
     refl (omega (arith, c.push_reserved.ensures.len, c.reserve.ensures.len))
-    (omega (arith, c.push_reserved.ensures.len, c.push_reserved.ensures.capacity, c.in_ok-reserve.ensures.room))
+    (room_in (vec_len c.reserve.new.history + (s.owed + 2)) _ (vec_capacity c.reserve.new.history) _ c.in_ok-reserve.ensures.room (omega (arith, c.push_reserved.ensures.len)) (omega (arith, c.push_reserved.ensures.capacity)))
     (c.push_reserved.ensures.items ∙ ap (λ l. l ++ record { pass = c.args.pass; class = c.args.class; key = c.args.key; act = Hit serial } ∷ []) c.reserve.ensures.items)
     (c.move_last.ensures ∙ ap (moved_last c.args.place) c.in_ok-hold.ensures.ok)
+
+pub returns-clause-kept : goal.returns-clause-kept
+returns-clause-kept g c =
+    kept_from c.self.inside.budget c.push_reserved.new.self.items c.move_last.new.self c.self.inside.live (c.self.inside.owed + 1) (vec_len c.push_reserved.new.self) (vec_capacity c.push_reserved.new.self) (invariant_of-self-2 g c)

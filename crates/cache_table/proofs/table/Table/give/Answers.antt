@@ -1,12 +1,13 @@
 use Rattle.cache_core.specs.declared.entry.Entry.{Entry}
 use Rattle.std.proofs.Common.{append_assoc, ◌≡◌, true, sym, ◌∙◌, ap, subst, ◌++◌, ◌∷◌, []}
-use Rattle.cache_core.specs.Rows.{is_held_by, is_live}
+use Rattle.cache_core.specs.Rows.{is_held_by, is_live, released_by}
 use Rattle.cache_core.specs.Core.{is_in}
 use Rattle.cache_core.specs.declared.entry.Act.TheVariants.{Give}
-use Rattle.cache_table.specs.Kept.{HasValue}
+use Rattle.cache_table.specs.Kept.{HasValue, touched_kept, with_state, rows_left}
+use Rattle.cache_table.proofs.Keeping.{touched_at}
 use Rattle.cache_table.specs.Cache.{state_at}
 use Rattle.cache_table.proofs.Values.{has-released}
-use Rattle.cache_table.proofs.Settling.{test_there, not_absent, test_back}
+use Rattle.cache_table.proofs.Settling.{state_there, test_there, not_absent, test_back}
 use Rattle.cache_table.proofs.table.Table.give.Goals as goal
 
 pub give-requires-clause-held : goal.give-requires-clause-held
@@ -25,6 +26,8 @@ pub returns-clause-adds : goal.returns-clause-adds
 returns-clause-adds g c =
     let place = sym c.place_of.ensures ∙ c.in-Some.is in
     let given = c.give.ensures.adds in
+    let there = state_there c.args.class c.args.key c.self.inside.ledger.rows c.in-Some.place place in
+    let change = with_state (released_by c.args.pass) in
     let evicts = c.settle.ensures.evicts in
     let entry : Entry = record { pass = c.args.pass; class = c.args.class; key = c.args.key; act = Give given.0 } in (
       given.0,
@@ -35,6 +38,7 @@ returns-clause-adds g c =
         evicts = evicts.0;
         history = evicts.2 ∙ ap (λ l. l ++ evicts.0) given.2.history ∙ append_assoc c.self.inside.ledger.history (entry ∷ []) evicts.0 ∙ ap (λ s. s.history ++ entry ∷ evicts.0) c.self.view_is;
         each = evicts.1;
+        rows = evicts.3 ∙ ap (rows_left evicts.0) (c.give.ensures.rows ∙ touched_at c.args.class c.args.key change c.self.inside.ledger.rows c.in-Some.place there.0 there.1 ∙ ap (λ s. touched_kept c.args.class c.args.key change s.rows) c.self.view_is);
       },
     )
 

@@ -1,0 +1,9 @@
+pub mod Closing
+pub mod Histories
+pub mod Joining
+pub mod Lists
+pub mod Rebuilt
+pub mod Splitting
+pub mod Turning
+pub mod Passes
+pub mod Notes
