@@ -2,7 +2,8 @@
 //! It draws each frame anew, layer by layer, and keeps one frame of pixels.
 //!
 //! Words: `WIDTH HEIGHT VALUE SCALE FRAMES`, and for each layer, the topmost first,
-//! `WIDTH,HEIGHT,ALPHA,RED,GREEN,BLUE`, premultiplied. The AFR file goes to standard output.
+//! `WIDTH,HEIGHT,ALPHA,RED,GREEN,BLUE,X,X_END,Y,Y_END,OPACITY,OPACITY_END`: a premultiplied colour, and three values
+//! that go evenly from the first frame to the one after the last. The AFR file goes to standard output.
 
 use std::env;
 use std::io::{self, Write};
@@ -12,9 +13,25 @@ use std::process::ExitCode;
 type Pixel = [u8; 4];
 
 struct Layer {
-    width: usize,
-    height: usize,
+    width: i64,
+    height: i64,
     colour: Pixel,
+    x: Change,
+    y: Change,
+    opacity: Change,
+}
+
+/// A value that changes evenly.
+struct Change {
+    from: i64,
+    to: i64,
+}
+
+impl Change {
+    /// The value where so many of all frames are over, rounded down.
+    fn at(&self, frame: u32, frames: u32) -> i64 {
+        self.from + ((self.to - self.from) * i64::from(frame)).div_euclid(i64::from(frames))
+    }
 }
 
 struct Project {
@@ -31,18 +48,23 @@ fn number(text: &str) -> Result<u32, String> {
 }
 
 fn read_layer(word: &str) -> Result<Layer, String> {
-    let numbers = word.split(',').map(number).collect::<Result<Vec<_>, _>>()?;
-    let [width, height, channels @ ..] = numbers.as_slice() else {
+    let numbers = word
+        .split(',')
+        .map(|text| text.parse().map_err(|_| format!("no number: {text}")))
+        .collect::<Result<Vec<i64>, _>>()?;
+    let [width, height, a, r, g, b, x, x_end, y, y_end, opacity, opacity_end] = numbers[..] else {
         return Err(format!("no layer: {word}"));
     };
-    let channels: [u32; 4] = channels.try_into().map_err(|_| format!("no layer: {word}"))?;
-    if channels[0] > 255 || channels.iter().any(|&channel| channel > channels[0]) {
+    if a > 255 || [r, g, b].iter().any(|&channel| channel > a) {
         return Err(format!("no premultiplied colour: {word}"));
     }
     Ok(Layer {
-        width: *width as usize,
-        height: *height as usize,
-        colour: channels.map(|channel| channel as u8),
+        width,
+        height,
+        colour: [a, r, g, b].map(|channel| channel as u8),
+        x: Change { from: x, to: x_end },
+        y: Change { from: y, to: y_end },
+        opacity: Change { from: opacity, to: opacity_end },
     })
 }
 
@@ -75,12 +97,26 @@ fn blend(source: Pixel, below: Pixel) -> Pixel {
     blended
 }
 
-fn draw_frame(frame: &mut [Pixel], width: usize, layers: &[Layer]) {
+fn scale(colour: Pixel, opacity: i64) -> Pixel {
+    colour.map(|channel| ((u32::from(channel) * opacity as u32 + 5000) / 10000) as u8)
+}
+
+/// The part of `0..length` that a run of `count` from `start` on covers.
+fn covered(start: i64, count: i64, length: usize) -> (usize, usize) {
+    let end = (start + count).clamp(0, length as i64) as usize;
+    ((start.clamp(0, length as i64) as usize).min(end), end)
+}
+
+fn draw_frame(frame: &mut [Pixel], project: &Project, number: u32) {
+    let (width, height) = (project.width as usize, project.height as usize);
     frame.fill([0; 4]);
-    for layer in layers.iter().rev() {
-        for row in frame.chunks_exact_mut(width).take(layer.height) {
-            for pixel in row.iter_mut().take(layer.width) {
-                *pixel = blend(layer.colour, *pixel);
+    for layer in project.layers.iter().rev() {
+        let (left, right) = covered(layer.x.at(number, project.frames), layer.width, width);
+        let (top, bottom) = covered(layer.y.at(number, project.frames), layer.height, height);
+        let colour = scale(layer.colour, layer.opacity.at(number, project.frames));
+        for row in frame.chunks_exact_mut(width).take(bottom).skip(top) {
+            for pixel in &mut row[left..right] {
+                *pixel = blend(colour, *pixel);
             }
         }
     }
@@ -101,8 +137,8 @@ fn write_project(out: &mut impl Write, project: &Project) -> io::Result<()> {
     write_header(out, project)?;
     let (width, height) = (project.width as usize, project.height as usize);
     let mut frame = vec![[0; 4]; width * height];
-    for _ in 0..project.frames {
-        draw_frame(&mut frame, width, &project.layers);
+    for number in 0..project.frames {
+        draw_frame(&mut frame, project, number);
         out.write_all(frame.as_flattened())?;
     }
     out.flush()

@@ -1,0 +1,159 @@
+"""The schema of projects, beside what the host reads."""
+
+import json
+import shutil
+import sys
+
+from common import EXAMPLES, TOP, Case, host, ran
+
+
+GONE = object()
+COMP = ("comps", 0)
+LAYER = ("comps", 0, "layers", 0)
+SOLID = (*LAYER, "source", "solid")
+KEY = [5, [0, 1], "hold"]
+# What is changed in a project that fits, to what, and the rule of the host that is broken then.
+BROKEN = [
+    (("name",), "x", 2),
+    (("version",), GONE, 3),
+    (("version",), 2, 3),
+    (("version",), "1", 3),
+    (("depth",), GONE, 4),
+    (("depth",), 10, 4),
+    (("depth",), 16, 0),
+    (("root",), GONE, 16),
+    (("root",), 1, 16),
+    (("root",), -1, 16),
+    (("clips",), [], 0),
+    (("comps",), GONE, 6),
+    (("comps",), [], 6),
+    (("comps",), {}, 6),
+    (COMP, [], 6),
+    ((*COMP, "name"), "x", 6),
+    ((*COMP, "width"), GONE, 6),
+    ((*COMP, "width"), 0, 19),
+    ((*COMP, "width"), 4097, 19),
+    ((*COMP, "height"), "2", 19),
+    ((*COMP, "frames"), 0, 21),
+    ((*COMP, "frames"), 65537, 21),
+    ((*COMP, "frames"), 1.5, 1),
+    ((*COMP, "frame"), [0, 24], 22),
+    ((*COMP, "frame"), [1, 0], 15),
+    ((*COMP, "frame"), [1, 24, 1], 15),
+    ((*COMP, "frame"), "1/24", 15),
+    ((*COMP, "layers"), GONE, 6),
+    ((*COMP, "layers"), {}, 7),
+    ((*COMP, "layers"), [{"source": {"solid": [1, 1, 0, 0, 0, 0]}}] * 129, 7),
+    (LAYER, {}, 7),
+    ((*LAYER, "name"), "x", 7),
+    ((*LAYER, "mode"), "Normal", 0),
+    ((*LAYER, "matte"), "None", 0),
+    ((*LAYER, "effects"), [], 0),
+    ((*LAYER, "source"), {}, 9),
+    ((*LAYER, "source"), {"clip": 0}, 0),
+    ((*LAYER, "source"), {"solid": [1, 1, 0, 0, 0, 0], "still": 1}, 9),
+    (SOLID, [1, 1, 255, 0, 0], 27),
+    (SOLID, [1, 1, 255, 0, 0, 0, 0], 27),
+    (SOLID, [1, 1, 256, 0, 0, 0], 27),
+    (SOLID, [1, 1, 255, -1, 0, 0], 27),
+    (SOLID, [0, 1, 255, 0, 0, 0], 27),
+    (SOLID, [1, 4097, 255, 0, 0, 0], 27),
+    ((*LAYER, "start"), [1], 15),
+    ((*LAYER, "start"), [2147483648, 1], 15),
+    ((*LAYER, "in"), [1, -1], 15),
+    ((*LAYER, "in"), [1, 2147483648], 25),
+    ((*LAYER, "out"), "end", 15),
+    ((*LAYER, "out"), None, 15),
+    ((*LAYER, "opacity"), -1, 36),
+    ((*LAYER, "opacity"), 10001, 36),
+    ((*LAYER, "opacity"), "half", 14),
+    ((*LAYER, "opacity"), [], 14),
+    ((*LAYER, "opacity"), [[5, [0, 1]]], 14),
+    ((*LAYER, "opacity"), [[5, [0, 1], "smooth"]], 14),
+    ((*LAYER, "opacity"), [["5", [0, 1], "hold"]], 14),
+    ((*LAYER, "opacity"), [[5, 0, "hold"]], 15),
+    ((*LAYER, "opacity"), [[5, [0, 1], "hold", 1]], 14),
+    ((*LAYER, "opacity"), [KEY, [10001, [1, 1], "ease"]], 36),
+    ((*LAYER, "x"), 32768, 36),
+    ((*LAYER, "x"), [[-32769, [0, 1], "linear"]], 36),
+    ((*LAYER, "x"), {"value": 1}, 14),
+    ((*LAYER, "y"), -32769, 36),
+    ((*LAYER, "y"), [KEY] * 4097, 14),
+]
+FITTING = [
+    ((*LAYER, "opacity"), [KEY, [10000, [1, 24], "ease"], [0, [1, 12], "linear"]]),
+    ((*LAYER, "x"), [[-32768, [-1, 24], "linear"], [32767, [36000, 1], "hold"]]),
+    ((*LAYER, "y"), -32768),
+    ((*LAYER, "in"), [-1, 24]),
+    ((*LAYER, "out"), [0, 1]),
+    ((*LAYER, "start"), [-5, 24]),
+    ((*COMP, "layers"), []),
+    (SOLID, [4096, 2160, 0, 0, 0, 0]),
+]
+VALIDATOR = """
+import json, jsonschema, sys
+schema, values = json.load(sys.stdin)
+jsonschema.Draft202012Validator.check_schema(schema)
+check = jsonschema.Draft202012Validator(schema)
+json.dump([check.is_valid(value) for value in values], sys.stdout)
+"""
+
+
+def changed(keys, value):
+    """The smallest project with one member changed or gone."""
+    project = json.loads((TOP / "examples" / "two_pixels.json").read_bytes())
+    *above, last = keys
+    place = project
+    for key in above:
+        place = place[key]
+    if value is GONE:
+        del place[last]
+    else:
+        place[last] = value
+    return project
+
+
+def validating_python():
+    """A Python that has jsonschema with the form of 2020-12."""
+    for python in (sys.executable, "/usr/bin/python3"):
+        if shutil.which(python) and ran(python, "-c", "from jsonschema import Draft202012Validator").returncode == 0:
+            return python
+    return None
+
+
+class Schema(Case):
+    def valid(self, values):
+        """Whether each value fits the schema."""
+        python = validating_python()
+        if not python:
+            self.skipTest("missing here: jsonschema")
+        schema = json.loads((TOP / "docs" / "project.schema.json").read_bytes())
+        return json.loads(self.well(python, "-c", VALIDATOR, given=json.dumps([schema, values]).encode()))
+
+    def test_every_example_fits(self):
+        self.assertEqual(self.valid([json.loads(path.read_bytes()) for path in EXAMPLES]), [True] * len(EXAMPLES))
+
+    def test_what_the_host_takes_fits(self):
+        self.assertEqual(self.valid([changed(*row) for row in FITTING]), [True] * len(FITTING))
+
+    def test_broken_projects_do_not_fit(self):
+        fits = self.valid([changed(keys, value) for keys, value, _ in BROKEN])
+        self.assertEqual([row for row, is_valid in zip(BROKEN, fits) if is_valid], [])
+
+    def test_the_host_reads_what_the_table_says(self):
+        program = host()
+        if not program:
+            self.skipTest("no program is built, and no release fits")
+        for keys, value in FITTING:
+            with self.subTest(keys, value=value):
+                self.well(program, given=json.dumps(changed(keys, value)).encode())
+        for keys, value, rule in BROKEN:
+            with self.subTest(keys, rule=rule):
+                given = json.dumps(changed(keys, value)).encode()
+                self.refused(program, given=given, status=3, why=f"afhost: project rule {rule}")
+
+    def test_each_member_has_a_sentence(self):
+        schema = json.loads((TOP / "docs" / "project.schema.json").read_bytes())
+        for part in [schema, *schema["$defs"].values()]:
+            for name, member in part.get("properties", {}).items():
+                self.assertTrue(member["description"].endswith("."), name)
