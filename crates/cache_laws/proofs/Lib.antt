@@ -1,0 +1,7 @@
+pub mod Clear
+pub mod Histories
+pub mod Holding
+pub mod Own
+pub mod Running
+pub mod Single
+pub mod States

@@ -1,0 +1,16 @@
+use crate::{
+    clear_pass_has_no_row, clear_passes_leave_idle_rows, holds_are_counted, open_receipt_is_live,
+    open_receipt_is_not_evicted, single_flight, turns_are_running,
+};
+
+// The laws are functions that return.
+#[test]
+fn laws_return() {
+    holds_are_counted();
+    open_receipt_is_live();
+    open_receipt_is_not_evicted();
+    turns_are_running();
+    clear_pass_has_no_row();
+    clear_passes_leave_idle_rows();
+    single_flight();
+}
