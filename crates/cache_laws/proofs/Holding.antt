@@ -1,12 +1,13 @@
 -- What a pass holds is what it took, less what it gave back.
-use Rattle.std.proofs.Common.{◌≡◌, ℕ, ◌+◌, ◌<◌, Bool, true, false, cond, ◌&&◌, ◌||◌, List, [], ◌∷◌, ◌++◌, refl, sym, ap, ◌∙◌, subst, nat_eq, eqb-true, arith}
+use Rattle.std.proofs.Common.{◌≡◌, ℕ, ◌+◌, ◌<◌, Bool, true, false, cond, ◌&&◌, ◌||◌, List, [], ◌∷◌, ◌++◌, refl, sym, ap, ◌∙◌, subst, nat_eq, eqb-true, eq-eqb, arith}
 use Rattle.std.specs.Prelude.{Option, Some, None, count_by}
 use Rattle.std.specs.List.{list_any}
 use Rattle.std.specs.Option.{option_map_or}
 use Rattle.std.proofs.lemmas.List.Sums.{sum_by-cons, sum_by_push}
 use Rattle.cache_core.specs.Holds.{without_one}
-use Rattle.cache_core.specs.Rows.{state_of}
-use Rattle.cache_core.specs.Core.{Core, step}
+use Rattle.cache_core.specs.Rows.{state_of, is_live, is_held_by}
+use Rattle.cache_core.specs.Core.{Core, is_in, step}
+use Rattle.cache_core.specs.Laws.{Leaves}
 use Rattle.cache_core.specs.declared.entry.Entry.{Entry}
 use Rattle.cache_core.specs.declared.entry.Act.{Act}
 use Rattle.cache_core.specs.declared.entry.Act.TheVariants.{Start, Hit, Pending, NotCached, Finish, Abandon, Give, Evict}
@@ -16,7 +17,7 @@ use Rattle.cache_core.proofs.Names.{nat_eq-sym}
 use Rattle.cache_core.proofs.Evicting.{held_is_not_evicted}
 use Rattle.turn_lock.specs.Entries.{entries_of, is_about, takes_hold, gives_back, holds_taken, holds_given}
 use Rattle.turn_lock.proofs.Lists.{bit}
-use Rattle.cache_laws.specs.Passes.{holds_in, holds_of, HoldsAreCounted, OpenReceiptIsLive, OpenReceiptIsNotEvicted}
+use Rattle.cache_laws.specs.Passes.{holds_in, holds_of, HoldsAreCounted, IsOpen, OpenReceiptIsLive, OpenReceiptIsNotEvicted}
 use Rattle.cache_laws.proofs.Histories.{history_keeps}
 use Rattle.cache_laws.proofs.Own.{own_count}
 use Rattle.cache_laws.proofs.States.{state_after, Finds, Moves, moves}
@@ -161,6 +162,14 @@ held_is_live pass serial (Some (Live own size holders)) h = by (nat_eq own seria
 pub open_receipt_is_live : OpenReceiptIsLive
 open_receipt_is_live budget history core leaves pass class key serial more =
     held_is_live pass serial (state_of class key core.rows) (omega (arith, more, holds_are_counted budget history core leaves pass class key serial))
+
+-- its row is Live with the serial, and held by the pass: it may be given back
+pub open_receipt_fits : (budget : ℕ) (history : List Entry) (core : Core) → Leaves budget history core → (pass class key serial : ℕ)
+    → IsOpen class key serial (entries_of pass history)
+    → (is_in (is_live serial) (state_of class key core.rows) ≡ true) × (is_in (is_held_by pass) (state_of class key core.rows) ≡ true)
+open_receipt_fits budget history core leaves pass class key serial more =
+    let live = open_receipt_is_live budget history core leaves pass class key serial more in
+    (ap (is_in (is_live serial)) live.2 ∙ eq-eqb serial serial refl, ap (is_in (is_held_by pass)) live.2 ∙ live.3)
 
 -- a list with a member is not empty
 not_empty : (pass : ℕ) (holders : List ℕ) → list_any (nat_eq pass) holders ≡ true → holders ≡ [] → ⊥

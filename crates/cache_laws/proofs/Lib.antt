@@ -1,4 +1,7 @@
+pub mod Adding
 pub mod Clear
+pub mod Counting
+pub mod Distincts
 pub mod Histories
 pub mod Holding
 pub mod Own

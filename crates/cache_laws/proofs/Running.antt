@@ -1,6 +1,6 @@
 -- A pass computes a value exactly where the row is Running with it.
 use Rattle.std.proofs.Common.{◌≡◌, ℕ, Bool, true, false, cond, ◌&&◌, List, [], ◌∷◌, ◌++◌, refl, sym, ap, ◌∙◌, subst, nat_eq}
-use Rattle.std.specs.Prelude.{Option}
+use Rattle.std.specs.Prelude.{Option, Some}
 use Rattle.cache_core.specs.Rows.{state_of, is_running}
 use Rattle.cache_core.specs.Core.{Core, is_in}
 use Rattle.cache_core.specs.Laws.{Leaves}
@@ -8,11 +8,12 @@ use Rattle.cache_core.specs.declared.entry.Entry.{Entry}
 use Rattle.cache_core.specs.declared.entry.Act.{Act}
 use Rattle.cache_core.specs.declared.entry.Act.TheVariants.{Start, Hit, Pending, NotCached, Finish, Abandon, Give, Evict}
 use Rattle.cache_core.specs.declared.row.State.{State}
+use Rattle.cache_core.specs.declared.row.State.TheVariants.{Running}
 use Rattle.turn_lock.specs.Entries.{entries_of, is_about, computes, computes_after}
 use Rattle.cache_laws.specs.Passes.{TurnsAreRunning}
 use Rattle.cache_laws.proofs.Histories.{history_keeps}
 use Rattle.cache_laws.proofs.Own.{own_computes}
-use Rattle.cache_laws.proofs.States.{state_after, Finds, Moves, moves}
+use Rattle.cache_laws.proofs.States.{state_after, Finds, Moves, moves, finds_running}
 
 -- whether a pass owns the row
 abbrev owns : ℕ → Option State → Bool
@@ -80,3 +81,9 @@ pub turns_are_running : TurnsAreRunning
 turns_are_running budget history core leaves pass class key =
     let same = computes_is budget history core leaves pass class key in
     (λ h. sym same ∙ h, λ h. same ∙ h)
+
+-- the row of a turn
+pub turn_has_row : (budget : ℕ) (history : List Entry) (core : Core) → Leaves budget history core → (pass class key : ℕ)
+    → computes class key false (entries_of pass history) ≡ true → state_of class key core.rows ≡ Some (Running pass)
+turn_has_row budget history core leaves pass class key turn =
+    finds_running pass (state_of class key core.rows) (sym (computes_is budget history core leaves pass class key) ∙ turn)

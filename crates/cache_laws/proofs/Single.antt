@@ -17,6 +17,14 @@ begin_leaves budget es fs legal = by (replay_of budget es) refl (sym (ap is_some
     by None is h = absurd (cc)
     by (Some core) is h = (core, is)
 
+-- a legal history leaves one
+pub legal_leaves : (budget : ℕ) (es : List Entry) → IsLegal budget es → (core : Core) × Leaves budget es core
+legal_leaves budget es legal = by (replay_of budget es) refl legal
+  where
+    by : (o : Option Core) → replay_of budget es ≡ o → is_some o ≡ true → (core : Core) × Leaves budget es core
+    by None is h = absurd (cc)
+    by (Some core) is h = (core, is)
+
 pub single_flight : SingleFlight
 single_flight budget history legal n =
     let first = begin_leaves budget (take n history) (drop n history) (ap (λ l. is_some (replay_of budget l)) (take-append-drop n history) ∙ legal) in

@@ -47,7 +47,7 @@ finds_none : (o : Option State) → is_none o ≡ true → o ≡ None
 finds_none None h = refl
 finds_none (Some state) h = absurd (cc)
 
-finds_running : (owner : ℕ) (o : Option State) → is_in (is_running owner) o ≡ true → o ≡ Some (Running owner)
+pub finds_running : (owner : ℕ) (o : Option State) → is_in (is_running owner) o ≡ true → o ≡ Some (Running owner)
 finds_running owner None h = absurd (cc)
 finds_running owner (Some (Running own)) h = ap (λ n. Some (Running n)) (eqb-true own owner h)
 finds_running owner (Some (Live serial size holders)) h = absurd (cc)

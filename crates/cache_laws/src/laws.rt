@@ -1,5 +1,6 @@
 // Laws of passes over all legal histories. Each stands in the contract of a function that does nothing.
 ghost use Rattle.cache_laws.specs.Passes.{HoldsAreCounted, OpenReceiptIsLive, OpenReceiptIsNotEvicted, TurnsAreRunning, ClearPassHasNoRow, ClearPassesLeaveIdleRows, SingleFlight};
+ghost use Rattle.cache_laws.specs.Computations.{DistinctNamesHaveNoRepeats, ComputationsAreCounted};
 
 /// What a pass holds of a value, and what it gave back, is what it took.
 pub fn holds_are_counted()
@@ -34,4 +35,14 @@ pub fn clear_passes_leave_idle_rows()
 /// After every beginning of a legal history, a class and key have at most one row.
 pub fn single_flight()
     ensures { SingleFlight }
+{}
+
+/// The names without repeats have none, and are the same names.
+pub fn distinct_names_have_no_repeats()
+    ensures { DistinctNamesHaveNoRepeats }
+{}
+
+/// Where no row is abandoned or evicted, there are as many Starts as distinct pairs of class and key that are used.
+pub fn computations_are_counted()
+    ensures { ComputationsAreCounted }
 {}
