@@ -1,7 +1,8 @@
 -- Where no row goes, each class and key that is used is started once.
-use Rattle.std.proofs.Common.{◌≡◌, ℕ, ◌+◌, Bool, true, false, not, cond, ◌&&◌, ◌||◌, List, [], ◌∷◌, ◌++◌, length, map, refl, sym, ap, ap₂, ◌∙◌, subst, arith, append-nil}
+use Rattle.std.proofs.Common.{◌≡◌, ℕ, ◌+◌, Bool, true, false, not, cond, ◌&&◌, ◌||◌, List, [], ◌∷◌, ◌++◌, map, refl, sym, ap, ap₂, ◌∙◌, subst, arith, append-nil}
 use Rattle.std.specs.Prelude.{Option, Some, is_some, filter}
 use Rattle.std.specs.List.{AllByRecursion, list_any}
+use Rattle.std.specs.Set.{distinct_count}
 use Rattle.std.proofs.lemmas.List.Sums.{sum_by_push}
 use Rattle.cache_core.specs.Rows.{state_of}
 use Rattle.cache_core.specs.Core.{Core, step}
@@ -12,7 +13,7 @@ use Rattle.cache_core.specs.declared.entry.Act.TheVariants.{Start, Hit, Pending,
 use Rattle.cache_core.specs.declared.row.State.{State}
 use Rattle.turn_lock.specs.Entries.{is_about}
 use Rattle.turn_lock.proofs.Lists.{bit}
-use Rattle.cache_laws.specs.Computations.{is_start, takes_out, is_use, name_of, used_names, same_name, distinct_names, starts_of, ComputationsAreCounted}
+use Rattle.cache_laws.specs.Computations.{is_start, takes_out, is_use, name_of, used_names, same_name, starts_of, ComputationsAreCounted}
 use Rattle.cache_laws.proofs.Histories.{history_keeps}
 use Rattle.cache_laws.proofs.States.{state_after, Finds, Moves, moves, finds}
 use Rattle.cache_laws.proofs.Distincts.{same_name-sym, any-push, distinct-push}
@@ -39,7 +40,7 @@ names-push (x ∷ es) e = by (is_use x.act) (names-push es e)
 
 -- what is kept of a history: a name was used exactly where it has a row
 record Counted (history : List Entry) (core : Core) : Type 0 where
-  pub counts : starts_of history ≡ length (distinct_names (used_names history))
+  pub counts : starts_of history ≡ distinct_count same_name (used_names history)
   pub rows : (class key : ℕ) → list_any (same_name (class, key)) (used_names history) ≡ is_some (state_of class key core.rows)
 
 -- an act starts a row where there was none, and uses one where there was or is one
@@ -73,16 +74,16 @@ counted_step budget es core next e leaves s stays h = record { counts = count (i
     begun : bit (is_start e.act) ≡ bit (is_use e.act && not (is_some (state_of e.class e.key core.rows)))
     begun = starts e.pass e.act (state_of e.class e.key core.rows) (finds budget es core next e leaves s) stays
 
-    count : (b : Bool) → is_use e.act ≡ b → starts_of (es ++ e ∷ []) ≡ length (distinct_names (used_names (es ++ e ∷ [])))
+    count : (b : Bool) → is_use e.act ≡ b → starts_of (es ++ e ∷ []) ≡ distinct_count same_name (used_names (es ++ e ∷ []))
     count true is =
         let names : used_names (es ++ e ∷ []) ≡ used_names es ++ name_of e ∷ [] = names-push es e ∙ ap (λ b. used_names es ++ cond b (name_of e ∷ []) []) is in
         let now = begun ∙ ap (λ b. bit (b && not (is_some (state_of e.class e.key core.rows)))) is in
         let has = ap (λ b. bit (not b)) (h.rows e.class e.key) in
-        omega (arith, more, now, has, h.counts, ap (λ l. length (distinct_names l)) names, distinct-push (used_names es) (name_of e))
+        omega (arith, more, now, has, h.counts, ap (distinct_count same_name) names, distinct-push (used_names es) (name_of e))
     count false is =
         let names : used_names (es ++ e ∷ []) ≡ used_names es = names-push es e ∙ ap (λ b. used_names es ++ cond b (name_of e ∷ []) []) is ∙ append-nil (used_names es) in
         let now = begun ∙ ap (λ b. bit (b && not (is_some (state_of e.class e.key core.rows)))) is in
-        omega (arith, more, now, h.counts, ap (λ l. length (distinct_names l)) names)
+        omega (arith, more, now, h.counts, ap (distinct_count same_name) names)
 
     kept : (b : Bool) → (b || false) ≡ b
     kept true = refl

@@ -1,6 +1,7 @@
 -- How many values the passes of a history computed.
-use Rattle.std.specs.Prelude.{ℕ, ◌≡◌, Bool, true, false, ◌&&◌, List, [], ◌∷◌, length, filter, map, count_by, nat_eq, if◌then◌else◌}
-use Rattle.std.specs.List.{AllByRecursion, IsDistinct, list_any}
+use Rattle.std.specs.Prelude.{ℕ, ◌≡◌, Bool, true, false, ◌&&◌, List, length, filter, map, count_by, nat_eq}
+use Rattle.std.specs.List.{AllByRecursion, IsDistinct}
+use Rattle.std.specs.Set.{is_member, distinct_count}
 use Rattle.cache_core.specs.Core.{Core}
 use Rattle.cache_core.specs.Laws.{Leaves}
 use Rattle.cache_core.specs.declared.entry.Entry.{Entry}
@@ -29,7 +30,7 @@ takes_out Abandon = true
 takes_out (Give serial) = false
 takes_out (Evict serial) = true
 
--- an act that begins, ends, takes or gives back a value
+-- an act that begins a value, puts it in, takes it or gives it back
 abbrev pub is_use : Act → Bool
 is_use Start = true
 is_use (Hit serial) = true
@@ -51,22 +52,23 @@ used_names history = map name_of (filter (λ entry. is_use entry.act) history)
 abbrev pub same_name : ℕ × ℕ → ℕ × ℕ → Bool
 same_name one other = nat_eq one.0 other.0 && nat_eq one.1 other.1
 
--- names without repeats: of each, only the last
-abbrev pub distinct_names : List (ℕ × ℕ) → List (ℕ × ℕ)
-distinct_names [] = []
-distinct_names (name ∷ names) = if list_any (same_name name) names then distinct_names names else name ∷ distinct_names names
-
 -- how many Starts a history has
 abbrev pub starts_of : List Entry → ℕ
 starts_of history = count_by (λ entry. is_start entry.act) history
 
--- `distinct_names` has no repeats, and has just the names that it was given
-pub record IsWithoutRepeats (names : List (ℕ × ℕ)) : Type 0 where
-  pub distinct : IsDistinct same_name (distinct_names names)
-  pub same_members : (name : ℕ × ℕ) → list_any (same_name name) (distinct_names names) ≡ list_any (same_name name) names
+-- the others have just the names, and each once
+pub record HasEachOnce (names others : List (ℕ × ℕ)) : Type 0 where
+  pub distinct : IsDistinct same_name others
+  pub same_members : (name : ℕ × ℕ) → is_member same_name others name ≡ is_member same_name names name
 
-abbrev pub DistinctNamesHaveNoRepeats : Type 0
-DistinctNamesHaveNoRepeats = (names : List (ℕ × ℕ)) → IsWithoutRepeats names
+-- there is such a list, and all such lists have this length
+pub record IsDistinctCount (names : List (ℕ × ℕ)) (count : ℕ) : Type 0 where
+  pub some : (others : List (ℕ × ℕ)) × HasEachOnce names others
+  pub each : (others : List (ℕ × ℕ)) → HasEachOnce names others → length others ≡ count
+
+-- `distinct_count` counts distinct names
+abbrev pub DistinctNamesAreCounted : Type 0
+DistinctNamesAreCounted = (names : List (ℕ × ℕ)) → IsDistinctCount names (distinct_count same_name names)
 
 -- in a legal history in which no row goes, each class and key that is used was computed once: there are as many Starts
 -- as distinct pairs of class and key
@@ -74,4 +76,4 @@ abbrev pub ComputationsAreCounted : Type 0
 ComputationsAreCounted =
     (budget : ℕ) (history : List Entry) (core : Core) → Leaves budget history core
     → AllByRecursion (λ entry. takes_out entry.act ≡ false) history
-    → starts_of history ≡ length (distinct_names (used_names history))
+    → starts_of history ≡ distinct_count same_name (used_names history)

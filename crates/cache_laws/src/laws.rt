@@ -1,6 +1,6 @@
 // Laws of passes over all legal histories. Each stands in the contract of a function that does nothing.
 ghost use Rattle.cache_laws.specs.Passes.{HoldsAreCounted, OpenReceiptIsLive, OpenReceiptIsNotEvicted, TurnsAreRunning, ClearPassHasNoRow, ClearPassesLeaveIdleRows, SingleFlight};
-ghost use Rattle.cache_laws.specs.Computations.{DistinctNamesHaveNoRepeats, ComputationsAreCounted};
+ghost use Rattle.cache_laws.specs.Computations.{DistinctNamesAreCounted, ComputationsAreCounted};
 
 /// What a pass holds of a value, and what it gave back, is what it took.
 pub fn holds_are_counted()
@@ -37,9 +37,9 @@ pub fn single_flight()
     ensures { SingleFlight }
 {}
 
-/// The names without repeats have none, and are the same names.
-pub fn distinct_names_have_no_repeats()
-    ensures { DistinctNamesHaveNoRepeats }
+/// Distinct pairs of class and key are counted as the length of each list that has them once.
+pub fn distinct_names_are_counted()
+    ensures { DistinctNamesAreCounted }
 {}
 
 /// Where no row is abandoned or evicted, there are as many Starts as distinct pairs of class and key that are used.

@@ -5,7 +5,7 @@ mod laws;
 
 pub use laws::{
     clear_pass_has_no_row, clear_passes_leave_idle_rows, computations_are_counted,
-    distinct_names_have_no_repeats, holds_are_counted, open_receipt_is_live,
+    distinct_names_are_counted, holds_are_counted, open_receipt_is_live,
     open_receipt_is_not_evicted, single_flight, turns_are_running,
 };
 

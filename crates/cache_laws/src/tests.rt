@@ -1,6 +1,6 @@
 use crate::{
     clear_pass_has_no_row, clear_passes_leave_idle_rows, computations_are_counted,
-    distinct_names_have_no_repeats, holds_are_counted, open_receipt_is_live,
+    distinct_names_are_counted, holds_are_counted, open_receipt_is_live,
     open_receipt_is_not_evicted, single_flight, turns_are_running,
 };
 
@@ -14,6 +14,6 @@ fn laws_return() {
     clear_pass_has_no_row();
     clear_passes_leave_idle_rows();
     single_flight();
-    distinct_names_have_no_repeats();
+    distinct_names_are_counted();
     computations_are_counted();
 }
