@@ -21,7 +21,7 @@ use Rattle.project_model.specs.declared.place.Breach.{Breach}
 use Rattle.project_model.specs.declared.place.Place.{Place}
 use Rattle.project_model.specs.declared.plain.PlainProject.{PlainProject}
 use Rattle.project_model.specs.declared.rule.Rule.{Rule}
-use Rattle.project_model.specs.declared.rule.Rule.TheVariants.{Root, Size, Frames, FrameValue, Near, Length, Base, Solid, Span, Rising, Range}
+use Rattle.project_model.specs.declared.rule.Rule.TheVariants.{Root, Size, Frames, FrameValue, Near, Length, Base, Solid, Mode, Matte, MatteLayer, Span, Rising, Range}
 
 -- the place is that of another search where the tests are
 pub same_first : (places others : Rule → Option Place) → ((rule : Rule) → places rule ≡ others rule) → first_broken number_of places rules ≡ first_broken number_of others rules
@@ -37,6 +37,9 @@ same_place project is_based e Length = refl
 same_place project is_based e Base =
     ap (λ (b : Bool). first_place (λ comp. comp.layers) b (breaks_comp project Base) (breaks_layer project Base) project.comps) e
 same_place project is_based e Solid = refl
+same_place project is_based e Mode = refl
+same_place project is_based e Matte = refl
+same_place project is_based e MatteLayer = refl
 same_place project is_based e Span = refl
 same_place project is_based e Rising = refl
 same_place project is_based e Range = refl
@@ -85,6 +88,9 @@ in_hand project Base =
     (nat_le (common_base (times_of plain)) greatest_base) (is_based project) _
     (not_within (common_base (times_of plain)) greatest_base)
 in_hand project Solid = refl
+in_hand project Mode = refl
+in_hand project Matte = refl
+in_hand project MatteLayer = refl
 in_hand project Span = refl
 in_hand project Rising = refl
 in_hand project Range = refl

@@ -15,7 +15,7 @@ use Rattle.project_model.specs.declared.layer.Layer.{Layer}
 use Rattle.project_model.specs.declared.place.Place.TheVariants as place
 use Rattle.project_model.specs.declared.project.Project.{Project}
 use Rattle.project_model.specs.declared.rule.Rule.{Rule}
-use Rattle.project_model.specs.declared.rule.Rule.TheVariants.{Root, Size, Frames, FrameValue, Near, Length, Base, Solid, Span, Rising, Range}
+use Rattle.project_model.specs.declared.rule.Rule.TheVariants.{Root, Size, Frames, FrameValue, Near, Length, Base, Solid, Mode, Matte, MatteLayer, Span, Rising, Range}
 use Rattle.project_model.proofs.Based.{same_first}
 
 layer_based : (depth base : ℕ) (layer : Layer) → IsSoundLayer depth base layer → layer_is_based base layer ≡ true
@@ -45,6 +45,9 @@ same project sound Length = refl
 same project sound Base =
     ap (λ (b : Bool). if b then place_of (plain_of project) Base else Some place.Project) (based project sound)
 same project sound Solid = refl
+same project sound Mode = refl
+same project sound Matte = refl
+same project sound MatteLayer = refl
 same project sound Span = refl
 same project sound Rising = refl
 same project sound Range = refl

@@ -1,6 +1,6 @@
 -- What the rules say of a project that breaks none.
 use Rattle.std.proofs.Common.{◌≡◌, ℕ, ◌+◌, ◌≤◌, Bool, true, false, List, [], ◌∷◌, ℤ, pos, ◌≤ℤ◌, refl, arith}
-use Rattle.std.specs.Prelude.{Option, Some, None, option_map, IsTrue, ◌&&◌, int_lt, int_le, if◌then◌else◌}
+use Rattle.std.specs.Prelude.{Option, Some, None, option_map, is_none, IsSome, IsTrue, ◌&&◌, int_lt, int_le, if◌then◌else◌}
 use Rattle.std.specs.List.{All, list_all}
 use Rattle.std.proofs.lemmas.Bool.{and_parts, leb-true, not-false}
 use Rattle.std.proofs.lemmas.Int.{ints}
@@ -24,7 +24,7 @@ use Rattle.project_model.specs.declared.plain.PlainLayer.{PlainLayer}
 use Rattle.project_model.specs.declared.plain.PlainComp.{PlainComp}
 use Rattle.project_model.specs.declared.plain.PlainProject.{PlainProject}
 use Rattle.project_model.specs.declared.rule.Rule.{Rule}
-use Rattle.project_model.specs.declared.rule.Rule.TheVariants.{Root, Size, Frames, FrameValue, Near, Length, Base, Solid, Span, Rising, Range}
+use Rattle.project_model.specs.declared.rule.Rule.TheVariants.{Root, Size, Frames, FrameValue, Near, Length, Base, Solid, Mode, Matte, MatteLayer, Span, Rising, Range}
 
 -- ---- nothing is found
 
@@ -56,9 +56,12 @@ each_kept place_of h Near = h.1.1.1.1.0
 each_kept place_of h Length = h.1.1.1.1.1.0
 each_kept place_of h Base = h.1.1.1.1.1.1.0
 each_kept place_of h Solid = h.1.1.1.1.1.1.1.0
-each_kept place_of h Span = h.1.1.1.1.1.1.1.1.0
-each_kept place_of h Rising = h.1.1.1.1.1.1.1.1.1.0
-each_kept place_of h Range = h.1.1.1.1.1.1.1.1.1.1.0
+each_kept place_of h Mode = h.1.1.1.1.1.1.1.1.0
+each_kept place_of h Matte = h.1.1.1.1.1.1.1.1.1.0
+each_kept place_of h MatteLayer = h.1.1.1.1.1.1.1.1.1.1.0
+each_kept place_of h Span = h.1.1.1.1.1.1.1.1.1.1.1.0
+each_kept place_of h Rising = h.1.1.1.1.1.1.1.1.1.1.1.1.0
+each_kept place_of h Range = h.1.1.1.1.1.1.1.1.1.1.1.1.1.0
 
 -- no test accepts, at whatever index it is asked
 pub record IsPassed {C L : Type 0} (in_comp : ℕ → C → Bool) (in_layer : C → ℕ → L → Bool) (layers : List L) (comp : C) : Type 0 where
@@ -67,7 +70,7 @@ pub record IsPassed {C L : Type 0} (in_comp : ℕ → C → Bool) (in_layer : C 
   pub layers_passed : All (λ layer. (m : ℕ) × (in_layer comp m layer ≡ false)) layers
 
 -- the test of a choice
-chosen_none : {A : Type 0} (b : Bool) (a : A) (other : Option A) → (if b then Some a else other) ≡ None → (b ≡ false) × (other ≡ None)
+pub chosen_none : {A : Type 0} (b : Bool) (a : A) (other : Option A) → (if b then Some a else other) ≡ None → (b ≡ false) × (other ≡ None)
 chosen_none true a other e = cc
 chosen_none false a other e = (refl, e)
 
@@ -167,6 +170,8 @@ pub record KeepsComp (depth : ℕ) (comp : PlainComp) : Type 0 where
   pub frame_near : IsNear comp.frame
   pub layers_near : All (λ layer. All IsNear (layer_times layer)) comp.layers
   pub sources : All (λ layer. IsSoundItem (most_of depth) layer.source) comp.layers
+  pub modes : All (λ layer. IsSome layer.mode) comp.layers
+  pub mattes : All (λ layer. IsSome layer.matte) comp.layers
   pub rising : All KeepsStreams comp.layers
   pub ranges : All KeepsRanges comp.layers
 
@@ -182,6 +187,10 @@ ranged_layer layer e =
     let front = and_parts _ _ parts.0 in
     record { opacity = all_within _ _ layer.opacity front.0; x = all_within _ _ layer.x front.1; y = all_within _ _ layer.y parts.1 }
 
+some_of : {A : Type 0} (o : Option A) → is_none o ≡ false → IsSome o
+some_of None e = cc
+some_of (Some a) e = refl
+
 above : (value : ℤ) → int_lt value (pos 1) ≡ false → pos 1 ≤ℤ value
 above value e = omega (arith, ints, e)
 
@@ -196,6 +205,8 @@ comp_keeps project comp h =
       frame_near = near comp.frame (not-false _ (h Near).comp_passed);
       layers_near = All-weaker (λ layer. (m : ℕ) × (breaks_layer project Near comp m layer ≡ false)) (λ layer. All IsNear (layer_times layer)) (λ layer k. all_near (layer_times layer) (not-false _ k.1)) comp.layers (h Near).layers_passed;
       sources = All-weaker (λ layer. (m : ℕ) × (breaks_layer project Solid comp m layer ≡ false)) (λ layer. IsSoundItem (most_of project.depth) layer.source) (λ layer k. sound_item (most_of project.depth) layer.source (not-false _ k.1)) comp.layers (h Solid).layers_passed;
+      modes = All-weaker (λ layer. (m : ℕ) × (breaks_layer project Mode comp m layer ≡ false)) (λ layer. IsSome layer.mode) (λ layer k. some_of layer.mode k.1) comp.layers (h Mode).layers_passed;
+      mattes = All-weaker (λ layer. (m : ℕ) × (breaks_layer project Matte comp m layer ≡ false)) (λ layer. IsSome layer.matte) (λ layer k. some_of layer.matte k.1) comp.layers (h Matte).layers_passed;
       rising = All-weaker (λ layer. (m : ℕ) × (breaks_layer project Rising comp m layer ≡ false)) KeepsStreams (λ layer k. rising_layer layer (not-false _ k.1)) comp.layers (h Rising).layers_passed;
       ranges = All-weaker (λ layer. (m : ℕ) × (breaks_layer project Range comp m layer ≡ false)) KeepsRanges (λ layer k. ranged_layer layer (not-false _ k.1)) comp.layers (h Range).layers_passed;
     }

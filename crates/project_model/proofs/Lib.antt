@@ -1,4 +1,5 @@
 pub mod Based
+pub mod Checked
 pub mod Copied
 pub mod First
 pub mod Formed

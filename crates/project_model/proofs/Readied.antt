@@ -1,6 +1,6 @@
 -- Parts that keep the rules can be made, and what is made of them is sound.
 use Rattle.std.proofs.Common.{◌≡◌, ℕ, ◌≤◌, List, [], ◌∷◌, ◌++◌, length, map, ℤ, pos, sym, ◌∙◌, subst, ap, arith}
-use Rattle.std.specs.Prelude.{Option, Some, None, IsTrue, option_to_list, slice_index_or}
+use Rattle.std.specs.Prelude.{Option, Some, None, IsSome, IsTrue, option_to_list, slice_index_or}
 use Rattle.std.specs.Int.{◌∣◌}
 use Rattle.std.specs.List.{All, flat_map}
 use Rattle.std.proofs.lemmas.List.{length-map}
@@ -10,15 +10,15 @@ use Rattle.rational_time.proofs.Multiples.{is_base}
 use Rattle.rational_time.specs.Times.{IsNear, common_base}
 use Rattle.rational_time.specs.declared.time.Time.{Time}
 use Rattle.rational_time.specs.declared.time.TimeBase.{TimeBase}
-use Rattle.param_stream.specs.Curve.{IsTimed, IsBetween, rises}
+use Rattle.param_stream.specs.Curve.{Curve, IsTimed, IsBetween, rises}
 use Rattle.param_stream.specs.declared.key.Keyframe.{Keyframe}
 use Rattle.param_stream.proofs.Rising.{both_rise}
 use Rattle.project_model.specs.Bounds.{most_of, greatest_base, full_opacity, least_position, greatest_position}
 use Rattle.project_model.specs.Broken.{breach_of}
 use Rattle.project_model.specs.Form.{IsFormed, IsFormedComp, IsFormedLayer, IsKeyCount}
 use Rattle.project_model.specs.Plain.{plain_layer, plain_comp, plain_of}
-use Rattle.project_model.specs.Ready.{AreReady, IsReadyLayer, IsReadyComp, IsMadeComp}
-use Rattle.project_model.specs.Sound.{IsWritten, MayBeWritten, IsMadeLayer, IsSoundItem, IsSoundLayer, IsSoundComp, IsSound}
+use Rattle.project_model.specs.Ready.{AreReady, IsReadyLayer, IsReadyComp, IsBasedLayer, IsBasedComp}
+use Rattle.project_model.specs.Sound.{IsWritten, MayBeWritten, IsMadeWith, IsSoundItem, IsSoundLayer, IsSoundComp, IsSound}
 use Rattle.project_model.specs.Times.{key_times, layer_times, comp_times, times_of}
 use Rattle.project_model.specs.declared.layer.Layer.{Layer}
 use Rattle.project_model.specs.declared.comp.Comp.{Comp}
@@ -76,8 +76,8 @@ out_written : (base : ℕ) (out : Option Time) → All (IsWritten base) (option_
 out_written base None all = tt
 out_written base (Some time) all = All-head (IsWritten base) time [] all
 
-layer_ready : (base : ℕ) (layer : PlainLayer) → 1 ≤ base → IsFormedLayer layer → All (IsScaled base) (layer_times layer) → All IsNear (layer_times layer) → KeepsStreams layer → KeepsRanges layer → IsReadyLayer base layer
-layer_ready base layer some formed scaled near rising ranges =
+layer_ready : (base : ℕ) (layer : PlainLayer) → 1 ≤ base → IsFormedLayer layer → IsSome layer.mode → IsSome layer.matte → All (IsScaled base) (layer_times layer) → All IsNear (layer_times layer) → KeepsStreams layer → KeepsRanges layer → IsReadyLayer base layer
+layer_ready base layer some formed mode matte scaled near rising ranges =
     let P : Time → Type 0 = IsWritten base in
     let points : List Time = layer.start ∷ layer.in_point ∷ option_to_list layer.out_point in
     let o : List Time = key_times layer.opacity in
@@ -92,6 +92,8 @@ layer_ready base layer some formed scaled near rising ranges =
       start = All-head P layer.start (layer.in_point ∷ option_to_list layer.out_point) first;
       in_point = All-head P layer.in_point (option_to_list layer.out_point) second;
       out_point = out_written base layer.out_point (All-tail P layer.in_point (option_to_list layer.out_point) second);
+      mode = mode;
+      matte = matte;
       opacity = keys_ready base (pos 0) full_opacity layer.opacity some formed.opacity (right P points o to_o) rising.opacity_rises ranges.opacity;
       x = keys_ready base least_position greatest_position layer.x some formed.x (right P (points ++ o) x to_x) rising.x_rises ranges.x;
       y = keys_ready base least_position greatest_position layer.y some formed.y (right P (points ++ o ++ x) y all) rising.y_rises ranges.y;
@@ -105,7 +107,7 @@ comp_ready base depth comp some formed scaled keeps =
       frame = record { scaled = frame.scaled; divides = frame.divides; near = keeps.frame_near };
       few_layers = formed.few_layers;
       layers = λ k d within.
-          layer_ready base (slice_index_or comp.layers k d) some (formed.layers k d within) (rest k d within) (keeps.layers_near k d within) (keeps.rising k d within) (keeps.ranges k d within);
+          layer_ready base (slice_index_or comp.layers k d) some (formed.layers k d within) (keeps.modes k d within) (keeps.mattes k d within) (rest k d within) (keeps.layers_near k d within) (keeps.rising k d within) (keeps.ranges k d within);
     }
 
 all_scaled : (project : PlainProject) (base : ℕ) → IsFormed project → base ≡ common_base (times_of project) → All (IsScaled base) (times_of project)
@@ -125,12 +127,24 @@ comps_ready project base formed kept is k d within =
 
 -- ---- what was made
 
-layer_sound : (depth base : ℕ) (layer : Layer) → IsSoundItem (most_of depth) layer.source → IsReadyLayer base (plain_layer layer) → IsMadeLayer base layer → IsSoundLayer depth base layer
-layer_sound depth base layer source ready made =
-    record { source = source; start = ready.start; in_point = ready.in_point; out_point = ready.out_point; streams = made }
+stream_made : (base : ℕ) (least most : ℤ) (curve : Curve) → curve.base ≡ base → AreReady base least most curve.keys → IsMadeWith base least most curve
+stream_made base least most curve is ready = record { base_is = is; some = ready.some; within = ready.within }
 
-comp_sound : (depth base : ℕ) (comp : Comp) → KeepsComp depth (plain_comp comp) → IsReadyComp base (plain_comp comp) → IsMadeComp base comp → IsSoundComp depth base comp
-comp_sound depth base comp keeps ready made =
+layer_sound : (depth base : ℕ) (layer : Layer) → IsSoundItem (most_of depth) layer.source → IsReadyLayer base (plain_layer layer) → IsBasedLayer base layer → IsSoundLayer depth base layer
+layer_sound depth base layer source ready based = record {
+  source = source;
+  start = ready.start;
+  in_point = ready.in_point;
+  out_point = ready.out_point;
+  streams = record {
+    opacity = stream_made base (pos 0) full_opacity layer.opacity based.opacity ready.opacity;
+    x = stream_made base least_position greatest_position layer.x based.x ready.x;
+    y = stream_made base least_position greatest_position layer.y based.y ready.y;
+  };
+}
+
+comp_sound : (depth base : ℕ) (comp : Comp) → KeepsComp depth (plain_comp comp) → IsReadyComp base (plain_comp comp) → IsBasedComp base comp → IsSoundComp depth base comp
+comp_sound depth base comp keeps ready based =
     let sources = unmapped (λ (layer : PlainLayer). IsSoundItem (most_of depth) layer.source) plain_layer comp.layers keeps.sources in
     let layers = unmapped (IsReadyLayer base) plain_layer comp.layers ready.layers in
     record {
@@ -139,10 +153,10 @@ comp_sound depth base comp keeps ready made =
       few_frames = keeps.few_frames;
       frame = ready.frame;
       some_time = keeps.some_time;
-      layers = λ k d within. layer_sound depth base (slice_index_or comp.layers k d) (sources k d within) (layers k d within) (made k d within);
+      layers = λ k d within. layer_sound depth base (slice_index_or comp.layers k d) (sources k d within) (layers k d within) (based k d within);
     }
 
-pub project_sound : (project : Project) → IsFormed (plain_of project) → breach_of (plain_of project) ≡ None → project.base.ticks ≡ common_base (times_of (plain_of project)) → project.base.ticks ≤ greatest_base → All (IsMadeComp project.base.ticks) project.comps → IsSound project
+pub project_sound : (project : Project) → IsFormed (plain_of project) → breach_of (plain_of project) ≡ None → project.base.ticks ≡ common_base (times_of (plain_of project)) → project.base.ticks ≤ greatest_base → All (IsBasedComp project.base.ticks) project.comps → IsSound project
 project_sound project formed kept is small made =
     let plain : PlainProject = plain_of project in
     let base : ℕ = project.base.ticks in
@@ -158,7 +172,7 @@ project_sound project formed kept is small made =
     }
 
 -- the same, of the parts that it was made of
-pub sound_of : (project : Project) (plain : PlainProject) (base : TimeBase) → IsFormed plain → breach_of plain ≡ None → base.ticks ≡ common_base (times_of plain) → base.ticks ≤ greatest_base → plain_of project ≡ plain → project.base ≡ base → All (IsMadeComp base.ticks) project.comps → IsSound project
+pub sound_of : (project : Project) (plain : PlainProject) (base : TimeBase) → IsFormed plain → breach_of plain ≡ None → base.ticks ≡ common_base (times_of plain) → base.ticks ≤ greatest_base → plain_of project ≡ plain → project.base ≡ base → All (IsBasedComp base.ticks) project.comps → IsSound project
 sound_of project plain base formed kept is small same based made =
     let ticks : project.base.ticks ≡ base.ticks = ap (λ (b : TimeBase). b.ticks) based in
     project_sound project
@@ -166,4 +180,4 @@ sound_of project plain base formed kept is small same based made =
     (subst (λ (p : PlainProject). breach_of p ≡ None) (sym same) kept)
     (ticks ∙ is ∙ ap (λ (p : PlainProject). common_base (times_of p)) (sym same))
     (omega (arith, ticks, small))
-    (subst (λ (n : ℕ). All (IsMadeComp n) project.comps) (sym ticks) made)
+    (subst (λ (n : ℕ). All (IsBasedComp n) project.comps) (sym ticks) made)

@@ -1,5 +1,7 @@
 -- Laws of the first broken rule and of its first place, over the definitions alone.
-use Rattle.std.specs.Prelude.{◌≡◌, ◌↔◌, ◌<◌, ◌⊎◌, Some, None, IsTrue, slice_get}
+use Rattle.std.specs.Prelude.{◌≡◌, ◌↔◌, ◌<◌, ◌⊎◌, Some, None, IsTrue, slice_get, pos, negsuc}
+use Rattle.rational_time.specs.declared.time.TheConstants.{MOST_SECONDS}
+use Rattle.project_model.specs.Bounds.{most_of, most_comps, most_layers, most_layers_in_all, most_keys, greatest_side, greatest_area, most_frames, greatest_base, full_opacity, least_position, greatest_position}
 use Rattle.project_model.specs.Broken.{breach_of}
 use Rattle.project_model.specs.Checked.{breach_in}
 use Rattle.project_model.specs.Plain.{plain_of}
@@ -62,3 +64,12 @@ pub record IsFirstPlace (project : PlainProject) (rule : Rule) (first : Place) :
 pub record PlaceIsFirst : Type 0 where
   pub some : (project : PlainProject) (rule : Rule) (first : Place) → place_of project rule ≡ Some first → IsFirstPlace project rule first
   pub none : (project : PlainProject) (rule : Rule) → place_of project rule ≡ None → (other : Place) → ¬ IsBrokenAt project rule other
+
+-- the bounds, in numbers
+abbrev pub BoundsInNumbers : Type 0
+BoundsInNumbers =
+    (most_comps ≡ 64) × (most_layers ≡ 128) × (most_layers_in_all ≡ 1024) × (most_keys ≡ 4096)
+    × (greatest_side ≡ 4096) × (greatest_area ≡ 8847360) × (most_frames ≡ 65536)
+    × (MOST_SECONDS ≡ 36000) × (greatest_base ≡ 2147483647)
+    × (most_of 8 ≡ 255) × (most_of 16 ≡ 32768)
+    × (full_opacity ≡ pos 10000) × (least_position ≡ negsuc 32767) × (greatest_position ≡ pos 32767)

@@ -1,6 +1,7 @@
 pub mod Bounds
 pub mod Broken
 pub mod Checked
+pub mod Constant
 pub mod Count
 pub mod Form
 pub mod Given

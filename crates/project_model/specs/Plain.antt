@@ -1,5 +1,5 @@
 -- What a project says in plain parts: its streams are their keyframes, without the bounds that they were made with.
-use Rattle.std.specs.Prelude.{map}
+use Rattle.std.specs.Prelude.{map, Some}
 use Rattle.project_model.specs.declared.layer.Layer.{Layer}
 use Rattle.project_model.specs.declared.comp.Comp.{Comp}
 use Rattle.project_model.specs.declared.project.Project.{Project}
@@ -13,6 +13,8 @@ plain_layer layer = record {
   start = layer.start;
   in_point = layer.in_point;
   out_point = layer.out_point;
+  mode = Some layer.mode;
+  matte = Some layer.matte;
   opacity = layer.opacity.keys;
   x = layer.x.keys;
   y = layer.y.keys;

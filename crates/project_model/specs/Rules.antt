@@ -1,6 +1,8 @@
 -- The rules on a project's numbers: a line a rule for what breaks it, at each kind of place.
-use Rattle.std.specs.Prelude.{ℕ, ◌*◌, ◌&&◌, Bool, false, not, nat_lt, List, [], ◌∷◌, length, ℤ, pos, ◌*ℤ◌, int_lt, int_le, Option, Some, None}
+use Rattle.std.specs.Prelude.{ℕ, zero, suc, ◌*◌, ◌&&◌, Bool, true, false, not, nat_lt, List, [], ◌∷◌, length, ℤ, pos, ◌*ℤ◌, int_lt, int_le, Option, Some, None, is_none, slice_get}
 use Rattle.std.specs.List.{list_all}
+use Rattle.track_matte.specs.declared.matte.Matte.{Matte as MatteKind}
+use Rattle.track_matte.specs.declared.matte.Matte.TheVariants as matte
 use Rattle.rational_time.specs.Times.{common_base, is_near, comes_before}
 use Rattle.rational_time.specs.declared.time.Time.{Time}
 use Rattle.rational_time.specs.declared.time.TheConstants.{MOST_SECONDS}
@@ -16,7 +18,7 @@ use Rattle.project_model.specs.declared.plain.PlainComp.{PlainComp}
 use Rattle.project_model.specs.declared.plain.PlainProject.{PlainProject}
 use Rattle.project_model.specs.declared.place.Place.{Place}
 use Rattle.project_model.specs.declared.rule.Rule.{Rule}
-use Rattle.project_model.specs.declared.rule.Rule.TheVariants.{Root, Size, Frames, FrameValue, Near, Length, Base, Solid, Span, Rising, Range}
+use Rattle.project_model.specs.declared.rule.Rule.TheVariants.{Root, Size, Frames, FrameValue, Near, Length, Base, Solid, Mode, Matte, MatteLayer, Span, Rising, Range}
 
 abbrev pub number_of : Rule → ℕ
 number_of Root = 16
@@ -27,17 +29,44 @@ number_of Near = 23
 number_of Length = 24
 number_of Base = 25
 number_of Solid = 27
+number_of Mode = 31
+number_of Matte = 32
+number_of MatteLayer = 33
 number_of Span = 34
 number_of Rising = 35
 number_of Range = 36
 
 -- all of them, in the order of their numbers
 abbrev pub rules : List Rule
-rules = Root ∷ Size ∷ Frames ∷ FrameValue ∷ Near ∷ Length ∷ Base ∷ Solid ∷ Span ∷ Rising ∷ Range ∷ []
+rules =
+    Root ∷ Size ∷ Frames ∷ FrameValue ∷ Near ∷ Length ∷ Base ∷ Solid ∷ Mode ∷ Matte ∷ MatteLayer ∷ Span ∷ Rising ∷ Range ∷ []
 
 -- a solid of this size and colour
 abbrev pub is_solid : ℕ → Item → Bool
 is_solid most (SolidItem width height a r g b) = is_size width height && is_colour most a r g b
+
+-- a matte other than none
+abbrev pub is_matte : Option MatteKind → Bool
+is_matte None = false
+is_matte (Some matte.None) = false
+is_matte (Some _) = true
+
+abbrev pub has_matte : PlainLayer → Bool
+has_matte layer = is_matte layer.matte
+
+-- the layer that stands above the one of this index
+abbrev pub layer_above : PlainComp → ℕ → Option PlainLayer
+layer_above comp zero = None
+layer_above comp (suc above) = slice_get comp.layers above
+
+-- there is a layer, and it has no matte itself
+abbrev pub may_be_matte : Option PlainLayer → Bool
+may_be_matte None = false
+may_be_matte (Some layer) = not (has_matte layer)
+
+-- a layer of this index finds above it one that may serve as its matte
+abbrev pub has_matte_layer : PlainComp → ℕ → Bool
+has_matte_layer comp index = may_be_matte (layer_above comp index)
 
 -- all frames of the composition together last longer than a time may be from zero
 abbrev pub is_too_long : PlainComp → Bool
@@ -76,6 +105,9 @@ breaks_comp project _ index comp = false
 abbrev pub breaks_layer : PlainProject → Rule → PlainComp → ℕ → PlainLayer → Bool
 breaks_layer project Near comp index layer = not (list_all is_near (layer_times layer))
 breaks_layer project Solid comp index layer = not (is_solid (most_of project.depth) layer.source)
+breaks_layer project Mode comp index layer = is_none layer.mode
+breaks_layer project Matte comp index layer = is_none layer.matte
+breaks_layer project MatteLayer comp index layer = has_matte layer && not (has_matte_layer comp index)
 breaks_layer project Span comp index layer = not (begins_in_time comp layer.in_point layer.out_point)
 breaks_layer project Rising comp index layer = not (rises layer.opacity && rises layer.x && rises layer.y)
 breaks_layer project Range comp index layer =

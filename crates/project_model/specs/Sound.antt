@@ -3,7 +3,7 @@ use Rattle.std.specs.Prelude.{◌≡◌, ℕ, ◌*◌, ◌<◌, ◌≤◌, lengt
 use Rattle.std.specs.Int.{◌∣◌}
 use Rattle.rational_time.specs.Times.{IsNear, common_base}
 use Rattle.rational_time.specs.declared.time.Time.{Time}
-use Rattle.param_stream.specs.Curve.{Curve}
+use Rattle.param_stream.specs.Curve.{Curve, IsBetween}
 use Rattle.project_model.specs.Bounds.{most_of, greatest_side, greatest_area, most_frames, greatest_base, full_opacity, least_position, greatest_position}
 use Rattle.project_model.specs.Plain.{plain_of}
 use Rattle.project_model.specs.Times.{times_of}
@@ -42,13 +42,13 @@ abbrev pub MayBeWritten : ℕ → Option Time → Type 0
 MayBeWritten base None = Unit {0}
 MayBeWritten base (Some time) = IsWritten base time
 
--- the stream was made with this base and these bounds
+-- the stream was made with this base, and its values are within these bounds
 pub record IsMadeWith (base : ℕ) (least most : ℤ) (curve : Curve) : Type 0 where
   pub base_is : curve.base ≡ base
-  pub least_is : curve.least ≡ least
-  pub most_is : curve.most ≡ most
+  pub some : 1 ≤ length curve.keys
+  pub within : All (λ key. IsBetween least most key.value) curve.keys
 
--- its streams were
+-- its streams were made so
 pub record IsMadeLayer (base : ℕ) (layer : Layer) : Type 0 where
   pub opacity : IsMadeWith base (pos 0) full_opacity layer.opacity
   pub x : IsMadeWith base least_position greatest_position layer.x

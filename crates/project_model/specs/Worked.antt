@@ -1,17 +1,10 @@
 -- A worked example: one composition of two pixels with one solid.
-use Rattle.std.specs.Prelude.{ℤ, List, [], ◌∷◌, pos, None}
-use Rattle.rational_time.specs.declared.time.Time.{Time}
-use Rattle.param_stream.specs.declared.key.Ease.TheVariants.{Hold}
-use Rattle.param_stream.specs.declared.key.Keyframe.{Keyframe}
+use Rattle.std.specs.Prelude.{[], ◌∷◌, pos, Some, None}
+use Rattle.transfer_mode.specs.declared.mode.Mode.TheVariants.{Normal}
+use Rattle.track_matte.specs.declared.matte.Matte.TheVariants as matte
+use Rattle.project_model.specs.Constant.{zero_time, constant}
 use Rattle.project_model.specs.declared.item.Item.TheVariants.{Solid}
 use Rattle.project_model.specs.declared.plain.PlainProject.{PlainProject}
-
-abbrev pub zero_time : Time
-zero_time = record { value = pos 0; scale = 1 }
-
--- a stream of one value
-abbrev pub constant : ℤ → List Keyframe
-constant value = record { time = zero_time; value = value; kind = Hold } ∷ []
 
 abbrev pub two_pixel_project : PlainProject
 two_pixel_project = record {
@@ -27,6 +20,8 @@ two_pixel_project = record {
       start = zero_time;
       in_point = zero_time;
       out_point = None;
+      mode = Some Normal;
+      matte = Some matte.None;
       opacity = constant (pos 10000);
       x = constant (pos 0);
       y = constant (pos 0);

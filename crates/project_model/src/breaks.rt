@@ -4,7 +4,7 @@ ghost use Rattle.std.specs.Prelude.{◌≡◌, ℕ, pos, ◌*ℤ◌, option_to_l
 ghost use Rattle.std.specs.List.{list_all};
 ghost use Rattle.rational_time.specs.Times.{is_near};
 ghost use Rattle.project_model.specs.Times.{key_times, layer_times};
-ghost use Rattle.project_model.specs.Rules.{breaks_comp, breaks_layer, is_solid, is_within_length, begins_in_time, all_between, is_too_long};
+ghost use Rattle.project_model.specs.Rules.{breaks_comp, breaks_layer, is_solid, has_matte, has_matte_layer, is_within_length, begins_in_time, all_between, is_too_long};
 ghost use Rattle.project_model.specs.declared.plain.PlainProject.{PlainProject as Plain};
 
 use crate::bounds::{
@@ -14,6 +14,7 @@ use crate::bounds::{
 use crate::{Item, PlainComp, PlainLayer, PlainProject, Rule};
 use param_stream::{Keyframe, rises};
 use rational_time::{MOST_SECONDS, Time, comes_before, is_near};
+use track_matte::Matte;
 
 /// Whether the rule is broken in the composition outside its layers.
 pub fn breaks_comp(rule: Rule, comp: &PlainComp) -> bool
@@ -29,18 +30,22 @@ pub fn breaks_comp(rule: Rule, comp: &PlainComp) -> bool
     }
 }
 
-/// Whether the rule is broken in the layer of the composition.
+/// Whether the rule is broken in the layer of the composition, which has this index in it.
 pub fn breaks_layer(
     project: &PlainProject,
     rule: Rule,
     comp: &PlainComp,
+    index: usize,
     layer: &PlainLayer,
 ) -> bool
-    ensures { (index : ℕ) → result ≡ breaks_layer project.now rule comp.now index layer.now }
+    ensures { result ≡ breaks_layer project.now rule comp.now index layer.now }
 {
     match rule {
         Rule::Near => !is_near_layer(layer),
         Rule::Solid => !is_solid(most_of(project.depth), layer.source),
+        Rule::Mode => layer.mode.is_none(),
+        Rule::Matte => layer.matte.is_none(),
+        Rule::MatteLayer => has_matte(layer) && !has_matte_layer(comp, index),
         Rule::Span => !begins_in_time(comp, layer.in_point, layer.out_point),
         Rule::Rising => {
             !(rises(layer.opacity.as_slice())
@@ -112,6 +117,29 @@ fn is_solid(most: u32, source: Item) -> bool
             g,
             b,
         } => { is_size(width, height) && is_colour(most, a, r, g, b) }
+    }
+}
+
+// Whether a layer has a matte other than none.
+fn has_matte(layer: &PlainLayer) -> bool
+    ensures { result ≡ has_matte layer.now }
+{
+    match layer.matte {
+        Some(matte) => matte != Matte::None,
+        None => false,
+    }
+}
+
+// Whether there is a layer above the one of this index that may serve as its matte.
+fn has_matte_layer(comp: &PlainComp, index: usize) -> bool
+    ensures { result ≡ has_matte_layer comp.now index }
+{
+    if index == 0 {
+        return false;
+    }
+    match comp.layers.as_slice().get(index - 1) {
+        Some(above) => !has_matte(above),
+        None => false,
     }
 }
 

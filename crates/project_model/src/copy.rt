@@ -57,6 +57,8 @@ fn plain_layer(alloc: Global, layer: &Layer) -> Result<PlainLayer, Memory>
         start: layer.start,
         in_point: layer.in_point,
         out_point: layer.out_point,
+        mode: Some(layer.mode),
+        matte: Some(layer.matte),
         opacity: plain_keys(alloc, &layer.opacity)?,
         x: plain_keys(alloc, &layer.x)?,
         y: plain_keys(alloc, &layer.y)?,

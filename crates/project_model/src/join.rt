@@ -5,8 +5,7 @@ ghost use Rattle.std.specs.List.{All};
 ghost use Rattle.param_stream.specs.Curve.{IsBound};
 ghost use Rattle.project_model.specs.Form.{IsFormed};
 ghost use Rattle.project_model.specs.Plain.{plain_layer, plain_comp, plain_of};
-ghost use Rattle.project_model.specs.Ready.{AreReady, IsReadyLayer, IsReadyComp, IsMadeComp};
-ghost use Rattle.project_model.specs.Sound.{IsMadeLayer};
+ghost use Rattle.project_model.specs.Ready.{AreReady, IsReadyLayer, IsReadyComp, IsBasedLayer, IsBasedComp};
 
 use crate::bounds::{FULL_OPACITY, GREATEST_POSITION, LEAST_POSITION};
 use crate::{Collection, Comp, Layer, PlainComp, PlainLayer, PlainProject, Project};
@@ -21,7 +20,7 @@ pub fn project_of(alloc: Global, base: TimeBase, plain: PlainProject) -> Result<
     requires ready { All (IsReadyComp base.ticks) plain.comps }
     ensures plain { IfOk result (λ p. plain_of p ≡ plain) }
     ensures base { IfOk result (λ p. p.base ≡ base) }
-    ensures made { IfOk result (λ p. All (IsMadeComp base.ticks) p.comps) }
+    ensures based { IfOk result (λ p. All (IsBasedComp base.ticks) p.comps) }
 {
     let PlainProject { depth, root, comps } = plain;
     let comps = comps_of(alloc, base, comps)?;
@@ -41,7 +40,7 @@ fn comps_of(
 ) -> Result<Collection<Comp>, Memory>
     requires { All (IsReadyComp base.ticks) plain }
     ensures plain { IfOk result (λ comps. map plain_comp comps ≡ plain) }
-    ensures made { IfOk result (All (IsMadeComp base.ticks)) }
+    ensures based { IfOk result (All (IsBasedComp base.ticks)) }
 {
     let mut comps = Vec::new(alloc);
     for comp in plain.into_vec() {
@@ -54,7 +53,7 @@ fn comps_of(
 fn comp_of(alloc: Global, base: TimeBase, plain: PlainComp) -> Result<Comp, Memory>
     requires { IsReadyComp base.ticks plain }
     ensures plain { IfOk result (λ comp. plain_comp comp ≡ plain) }
-    ensures made { IfOk result (IsMadeComp base.ticks) }
+    ensures based { IfOk result (IsBasedComp base.ticks) }
 {
     let PlainComp {
         width,
@@ -81,7 +80,7 @@ fn layers_of(
 ) -> Result<Collection<Layer>, Memory>
     requires { All (IsReadyLayer base.ticks) plain }
     ensures plain { IfOk result (λ layers. map plain_layer layers ≡ plain) }
-    ensures made { IfOk result (All (IsMadeLayer base.ticks)) }
+    ensures based { IfOk result (All (IsBasedLayer base.ticks)) }
 {
     let mut layers = Vec::new(alloc);
     for layer in plain.into_vec() {
@@ -94,13 +93,15 @@ fn layers_of(
 fn layer_of(alloc: Global, base: TimeBase, plain: PlainLayer) -> Result<Layer, Memory>
     requires { IsReadyLayer base.ticks plain }
     ensures plain { IfOk result (λ layer. plain_layer layer ≡ plain) }
-    ensures made { IfOk result (IsMadeLayer base.ticks) }
+    ensures based { IfOk result (IsBasedLayer base.ticks) }
 {
     let PlainLayer {
         source,
         start,
         in_point,
         out_point,
+        mode,
+        matte,
         opacity,
         x,
         y,
@@ -113,6 +114,8 @@ fn layer_of(alloc: Global, base: TimeBase, plain: PlainLayer) -> Result<Layer, M
         start,
         in_point,
         out_point,
+        mode: mode.unwrap(),
+        matte: matte.unwrap(),
         opacity,
         x,
         y,

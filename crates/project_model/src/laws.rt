@@ -1,6 +1,6 @@
 //! Laws above the definitions: each function's contract is one, and calling it does nothing.
 
-ghost use Rattle.project_model.specs.Laws.{RulesAreKept, BreachIsFirst, SoundIsBased, PlaceIsFirst};
+ghost use Rattle.project_model.specs.Laws.{RulesAreKept, BreachIsFirst, SoundIsBased, PlaceIsFirst, BoundsInNumbers};
 
 /// No rule is broken exactly where each has no place at which it is.
 pub fn rules_are_kept()
@@ -22,4 +22,9 @@ pub fn sound_is_based()
 /// before the next composition.
 pub fn place_is_first()
     ensures { PlaceIsFirst }
+{}
+
+/// The bounds are these numbers.
+pub fn bounds_in_numbers()
+    ensures { BoundsInNumbers }
 {}

@@ -4,15 +4,19 @@ ghost use Rattle.project_model.specs.Bounds.{most_keys, scale_of};
 use crate::Item;
 use param_stream::Stream;
 use rational_time::Time;
+use track_matte::Matte;
+use transfer_mode::Mode;
 
 /// A layer of a composition. It is seen from `in_point` on, and before `out_point`, or to the composition's end
-/// where there is none.
+/// where there is none. `mode` is how it lies over what is below it, and `matte` what of the layer above lets it through.
 #[derive(Drop)]
 pub struct Layer {
     pub source: Item,
     pub start: Time,
     pub in_point: Time,
     pub out_point: Option<Time>,
+    pub mode: Mode,
+    pub matte: Matte,
     pub opacity: Stream,
     pub x: Stream,
     pub y: Stream,

@@ -28,7 +28,9 @@ pub use bounds::{
 pub use collection::Collection;
 pub use comp::Comp;
 pub use item::Item;
-pub use laws::{breach_is_first, place_is_first, rules_are_kept, sound_is_based};
+pub use laws::{
+    bounds_in_numbers, breach_is_first, place_is_first, rules_are_kept, sound_is_based,
+};
 pub use layer::Layer;
 pub use passing::{CheckError, check};
 pub use place::{Breach, Place};

@@ -3,6 +3,7 @@ ghost use Rattle.std.specs.List.{All, list_all};
 ghost use Rattle.rational_time.specs.Times.{common_base};
 ghost use Rattle.project_model.specs.Bounds.{greatest_base};
 ghost use Rattle.project_model.specs.Broken.{breach_of};
+ghost use Rattle.project_model.specs.Sound.{IsSound};
 ghost use Rattle.project_model.specs.Checked.{breach_in, is_based_on, layer_is_based, comp_of, layer_of, error_of, Refuses};
 
 use crate::copy::plain_of;
@@ -47,6 +48,7 @@ pub fn error_of(breach: Breach) -> CheckError
 /// common multiple of all scales, and that each stream was made with it.
 pub fn check(alloc: Global, project: &Project) -> Result<(), CheckError>
     ensures passed { IfOk result (λ _. breach_in project.now ≡ None) }
+    ensures sound { IfOk result (λ _. IsSound project.now) }
     ensures refused { IfErr result (λ e. Refuses e (breach_in project.now)) }
 {
     let Ok(plain) = plain_of(alloc, project) else {

@@ -1,6 +1,8 @@
 use crate::{Collection, Item};
 use param_stream::Keyframe;
 use rational_time::Time;
+use track_matte::Matte;
+use transfer_mode::Mode;
 
 /// A project in plain numbers and lists, as it is written. Nothing is known of the numbers: the rules say which it may have.
 /// `root` is the index of the composition that is rendered, and `depth` the bits of a channel.
@@ -21,13 +23,15 @@ pub struct PlainComp {
     pub layers: Collection<PlainLayer>,
 }
 
-/// A layer in plain parts. A stream is its keyframes.
+/// A layer in plain parts. A stream is its keyframes; a mode or a matte is none where what is written names none.
 #[derive(Debug, Drop)]
 pub struct PlainLayer {
     pub source: Item,
     pub start: Time,
     pub in_point: Time,
     pub out_point: Option<Time>,
+    pub mode: Option<Mode>,
+    pub matte: Option<Matte>,
     pub opacity: Collection<Keyframe>,
     pub x: Collection<Keyframe>,
     pub y: Collection<Keyframe>,

@@ -20,6 +20,12 @@ pub enum Rule {
     Base,
     /// 27: a solid has a width and a height as a composition, an alpha up to the depth's greatest value, and colours up to alpha.
     Solid,
+    /// 31: a layer's mode is one of the 21.
+    Mode,
+    /// 32: a layer's matte is one of the five.
+    Matte,
+    /// 33: a layer with a matte other than `None` has a layer above it, whose own matte is `None`.
+    MatteLayer,
     /// 34: a layer begins no later than it ends, or than its composition ends where it has no end of its own.
     Span,
     /// 35: the times of a stream's keyframes rise.
@@ -29,7 +35,7 @@ pub enum Rule {
 }
 
 /// All rules, in the order of their numbers.
-pub const RULES: [Rule; 11] = [
+pub const RULES: [Rule; 14] = [
     Rule::Root,
     Rule::Size,
     Rule::Frames,
@@ -38,6 +44,9 @@ pub const RULES: [Rule; 11] = [
     Rule::Length,
     Rule::Base,
     Rule::Solid,
+    Rule::Mode,
+    Rule::Matte,
+    Rule::MatteLayer,
     Rule::Span,
     Rule::Rising,
     Rule::Range,
@@ -57,6 +66,9 @@ impl Rule {
             Rule::Length => 24,
             Rule::Base => 25,
             Rule::Solid => 27,
+            Rule::Mode => 31,
+            Rule::Matte => 32,
+            Rule::MatteLayer => 33,
             Rule::Span => 34,
             Rule::Rising => 35,
             Rule::Range => 36,

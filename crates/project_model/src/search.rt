@@ -85,7 +85,7 @@ fn first_layer(project: &PlainProject, rule: Rule, comp: &PlainComp) -> Option<u
     ensures { result ≡ first_from (breaks_layer_of project.now rule comp.now) 0 comp.now.layers }
 {
     for (index, layer) in comp.layers.as_slice().iter().enumerate() {
-        if breaks_layer(project, rule, comp, layer) {
+        if breaks_layer(project, rule, comp, index, layer) {
             return Some(index as u32);
         }
     }

@@ -1,3 +1,4 @@
+use Rattle.std.specs.Prelude.{Some}
 use Rattle.project_model.proofs.Copied.{layer_scaled}
 use Rattle.project_model.proofs.copy.plain_layer.Goals as goal
 
@@ -10,6 +11,8 @@ returns-clause-scaled c =
       start = layer.start;
       in_point = layer.in_point;
       out_point = layer.out_point;
+      mode = Some layer.mode;
+      matte = Some layer.matte;
       opacity = c.in_ok-plain_keys.field-0;
       x = c.in_ok-plain_keys-2.field-0;
       y = c.in_ok-plain_keys-3.field-0;

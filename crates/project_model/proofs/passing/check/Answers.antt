@@ -1,5 +1,6 @@
 use Rattle.std.proofs.Common.{◌∙◌, sym}
 use Rattle.project_model.proofs.Based.{found_in, refuses}
+use Rattle.project_model.proofs.Checked.{checked_sound}
 use Rattle.project_model.proofs.passing.check.Goals as goal
 
 pub returns-in-Some-clause-refused : goal.returns-in-Some-clause-refused
@@ -14,3 +15,9 @@ returns-clause-passed c =
     sym (found_in c.args.project.now c.in-Ok.plain c.deref.result.now c.keeps_base-is_based.result c.first_breach.result
     c.in-Ok.ensures.plain (c.deref.ensures.value ∙ c.in-Ok-times_of.ensures) c.keeps_base-is_based.ensures c.first_breach.ensures)
     ∙ c.in-None.is
+
+pub returns-clause-sound : goal.returns-clause-sound
+returns-clause-sound c =
+    checked_sound c.args.project.now c.in-Ok.plain c.deref.result.now c.keeps_base-is_based.result c.first_breach.result
+    c.in-Ok.ensures.plain c.in-Ok.ensures.formed (c.deref.ensures.value ∙ c.in-Ok-times_of.ensures) c.keeps_base-is_based.ensures c.first_breach.ensures
+    c.in-None.is

@@ -16,4 +16,4 @@ returns-clause-sound c =
     (c.deref.ensures.value ∙ c.in-Ok.ensures) c.unwrap.ensures c.common_base-base.ensures.base c.common_base-base.ensures.small
     c.is_some.ensures c.first_breach.ensures c.in_default-first_breach.is in
     sound_of c.in-Ok-project_of.project c.args.plain c.unwrap.result c.requires kept.none kept.base kept.small
-    c.in-Ok-project_of.ensures.plain c.in-Ok-project_of.ensures.base c.in-Ok-project_of.ensures.made
+    c.in-Ok-project_of.ensures.plain c.in-Ok-project_of.ensures.base c.in-Ok-project_of.ensures.based

@@ -1,0 +1,64 @@
+-- A project in hand that passes is sound.
+use Rattle.std.proofs.Common.{◌≡◌, ℕ, ◌≤◌, Bool, true, List, sym, ◌∙◌, subst, ap, arith}
+use Rattle.std.specs.Prelude.{Option, Some, None, not, nat_lt, nat_le, ◌&&◌}
+use Rattle.std.specs.List.{All, list_all}
+use Rattle.std.proofs.lemmas.Bool.{and_parts, leb-true, le-ltb, not-false, eqb-true}
+use Rattle.std.proofs.lemmas.List.Elements.{All-weaker}
+use Rattle.std.proofs.lemmas.List.Sums.{AllPass-from_list_all}
+use Rattle.rational_time.specs.Times.{common_base}
+use Rattle.rational_time.specs.declared.time.Time.{Time}
+use Rattle.project_model.specs.Bounds.{greatest_base}
+use Rattle.project_model.specs.Broken.{breach_of}
+use Rattle.project_model.specs.Checked.{layer_is_based, is_based_on}
+use Rattle.project_model.specs.Form.{IsFormed}
+use Rattle.project_model.specs.Given.{place_given, breach_given}
+use Rattle.project_model.specs.Plain.{plain_of}
+use Rattle.project_model.specs.Ready.{IsBasedLayer, IsBasedComp}
+use Rattle.project_model.specs.Rules.{number_of, rules, place_of}
+use Rattle.project_model.specs.Sound.{IsSound}
+use Rattle.project_model.specs.Times.{times_of}
+use Rattle.project_model.specs.declared.comp.Comp.{Comp}
+use Rattle.project_model.specs.declared.layer.Layer.{Layer}
+use Rattle.project_model.specs.declared.place.Breach.{Breach}
+use Rattle.project_model.specs.declared.place.Place.TheVariants as place
+use Rattle.project_model.specs.declared.plain.PlainProject.{PlainProject}
+use Rattle.project_model.specs.declared.project.Project.{Project}
+use Rattle.project_model.specs.declared.rule.Rule.TheVariants.{Base}
+use Rattle.project_model.proofs.Based.{same_first, same_place}
+use Rattle.project_model.proofs.Keeps.{all_kept, each_kept, chosen_none}
+use Rattle.project_model.proofs.Readied.{project_sound}
+
+layer_based : (base : ℕ) (layer : Layer) → layer_is_based base layer ≡ true → IsBasedLayer base layer
+layer_based base layer e =
+    let parts = and_parts _ _ e in
+    let front = and_parts _ _ parts.0 in
+    record { opacity = eqb-true _ _ front.0; x = eqb-true _ _ front.1; y = eqb-true _ _ parts.1 }
+
+comp_based : (base : ℕ) (comp : Comp) → list_all (layer_is_based base) comp.layers ≡ true → IsBasedComp base comp
+comp_based base comp e =
+    All-weaker (λ (layer : Layer). layer_is_based base layer ≡ true) (IsBasedLayer base) (layer_based base) comp.layers
+    (AllPass-from_list_all (layer_is_based base) comp.layers e)
+
+all_based : (base : ℕ) (comps : List Comp) → list_all (λ (comp : Comp). list_all (layer_is_based base) comp.layers) comps ≡ true → All (IsBasedComp base) comps
+all_based base comps e =
+    All-weaker (λ (comp : Comp). list_all (layer_is_based base) comp.layers ≡ true) (IsBasedComp base) (comp_based base) comps
+    (AllPass-from_list_all (λ (comp : Comp). list_all (layer_is_based base) comp.layers) comps e)
+
+-- what the test of the base says where nothing was found
+pub checked_sound : (project : Project) (plain : PlainProject) (times : List Time) (flag : Bool) (found : Option Breach) → plain ≡ plain_of project → IsFormed plain → times ≡ times_of plain → flag ≡ (nat_le (common_base times) greatest_base && is_based_on (common_base times) project) → found ≡ breach_given plain flag → found ≡ None → IsSound project
+checked_sound project plain times flag found same formed are is search none =
+    let given : breach_given plain flag ≡ None = sym search ∙ none in
+    let outside : place_given plain flag Base ≡ None = each_kept (place_given plain flag) (all_kept number_of (place_given plain flag) rules given) Base in
+    let flagged : flag ≡ true = not-false flag (chosen_none (not flag) place.Project _ outside).0 in
+    let both = and_parts (nat_le (common_base times) greatest_base) (is_based_on (common_base times) project) (sym is ∙ flagged) in
+    let based = and_parts _ _ both.1 in
+    let small : common_base times ≤ greatest_base = leb-true _ _ both.0 in
+    let ticks : project.base.ticks ≡ common_base times = eqb-true _ _ based.0 in
+    let all : common_base times ≡ common_base (times_of plain) = ap common_base are in
+    let test : not flag ≡ nat_lt greatest_base (common_base (times_of plain)) =
+    ap not flagged ∙ sym (le-ltb greatest_base (common_base (times_of plain)) (omega (arith, all, small))) in
+    let kept : breach_of plain ≡ None = sym (same_first (place_given plain flag) (place_of plain) (same_place plain flag test)) ∙ given in
+    project_sound project (subst IsFormed same formed) (subst (λ (p : PlainProject). breach_of p ≡ None) same kept)
+    (ticks ∙ all ∙ ap (λ (p : PlainProject). common_base (times_of p)) same)
+    (omega (arith, ticks, small))
+    (all_based project.base.ticks project.comps based.1)
