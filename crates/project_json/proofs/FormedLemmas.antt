@@ -12,8 +12,9 @@ use Rattle.project_model.specs.Bounds.{is_bit_depth, is_among, is_between, most_
 use Rattle.project_model.specs.Form.{IsKeyCount, IsFormedLayer, IsFormedComp, IsFormed, plain_layer_count}
 use Rattle.project_model.specs.Times.{key_times, layer_times, comp_times}
 use Rattle.project_model.specs.declared.place.Place.{Place}
+use Rattle.project_model.specs.Constant.{zero_time, constant_key}
 use Rattle.project_json.specs.Parts.{items_in, is_number, is_this, small, is_there, where_there, is_the_number, u64_in, whole_in, count_in}
-use Rattle.project_json.specs.Reads.{zero_time, time_from, time_from_items, time_in, constant_key, key_from_items, key_in, keys_in}
+use Rattle.project_json.specs.Reads.{time_from, time_from_items, time_in, key_from_items, key_in, keys_in}
 use Rattle.project_json.specs.PlainData.{items_of, plain_layer_of, plain_comp_of, plain_of_data}
 use Rattle.project_json.specs.FormRules.{breaks_layer, is_stream, is_keyframe, place_of, form_rules, form_breach}
 use Rattle.project_json.specs.declared.form.FormRule.{FormRule}

@@ -8,11 +8,14 @@ use Rattle.serde_json.specs.View.{view, items_view, members_view}
 use Rattle.serde_json.specs.declared.value.Value.{Value}
 use Rattle.serde_json.specs.Data.{Data, null, boolean, number, string, array, object, Items, Members}
 use Rattle.serde_json.specs.Find.{as_number, as_array, as_object, get}
+use Rattle.project_model.specs.Constant.{constant_key}
 use Rattle.project_json.specs.Parts.{list_of, member_names, is_one_of, texts_of, has_only, has_each, items_in, whole_in, is_number, is_object, is_list_of_objects}
+use Rattle.rational_time.specs.declared.time.Time.{Time}
+use Rattle.project_model.specs.declared.plain.PlainLayer.{PlainLayer}
 use Rattle.project_model.specs.declared.plain.PlainComp.{PlainComp}
 use Rattle.project_model.specs.declared.plain.PlainProject.{PlainProject}
 use Rattle.project_model.specs.Bounds.{is_among, most_keys}
-use Rattle.project_json.specs.Reads.{key_in, keys_in, constant_key}
+use Rattle.project_json.specs.Reads.{key_in, keys_in}
 use Rattle.project_json.specs.FormRules.{is_keyframe, is_stream}
 
 pub list_any-map : {X Y : Type 0} (p : X → Bool) (f : Y → X) (ys : List Y) → list_any p (map f ys) ≡ list_any (λ y. p (f y)) ys
@@ -143,3 +146,9 @@ keys_test d e = ap (λ b. if b then constant_key (unwrap_or (whole_in d) (pos 0)
 pub same_project : (depth depth' root root' : ℕ) (comps comps' : List PlainComp) → depth ≡ depth' → root ≡ root' → comps ≡ comps'
     → ◌≡◌ {A = PlainProject} (record { depth = depth; root = root; comps = comps }) (record { depth = depth'; root = root'; comps = comps' })
 same_project depth depth' root root' comps comps' d r e = cc
+
+-- a composition, part by part
+pub same_comp : (w w' h h' n n' : ℕ) (f f' : Time) (ls ls' : List PlainLayer) → w ≡ w' → h ≡ h' → f ≡ f' → n ≡ n' → ls ≡ ls'
+    → (let p : PlainComp = record { width = w; height = h; frame = f; frames = n; layers = ls } in p)
+    ≡ record { width = w'; height = h'; frame = f'; frames = n'; layers = ls' }
+same_comp w w' h h' n n' f f' ls ls' a b c d e = cc

@@ -35,7 +35,7 @@ form_rules =
 
 -- the names that stand for parts which are not built yet
 abbrev pub unbuilt_names : List (List ℕ)
-unbuilt_names = codes "clips" ∷ codes "clip" ∷ codes "comp" ∷ codes "mode" ∷ codes "matte" ∷ codes "effects" ∷ []
+unbuilt_names = codes "clips" ∷ codes "clip" ∷ codes "comp" ∷ codes "effects" ∷ []
 
 abbrev pub project_names : List (List ℕ)
 project_names = codes "version" ∷ codes "depth" ∷ codes "root" ∷ codes "clips" ∷ codes "comps" ∷ []
@@ -97,8 +97,7 @@ is_source d = has_only source_names d && length (names_in d) == 1
 -- what breaks a rule in the project outside its compositions
 abbrev pub breaks_project : Data → FormRule → Bool
 breaks_project top Unbuilt =
-    anywhere has_unbuilt top || is_there (is_the_number 16) (get (codes "depth") top)
-    || nat_lt 1 (length (items_of (codes "comps") top))
+    anywhere has_unbuilt top || nat_lt 1 (length (items_of (codes "comps") top))
 breaks_project top Whole = anywhere is_not_whole top
 breaks_project top Names = not (has_only project_names top)
 breaks_project top Version = not (is_there (is_the_number 1) (get (codes "version") top))

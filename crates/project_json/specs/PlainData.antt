@@ -1,16 +1,23 @@
 -- The plain parts of a project that a JSON value writes. It is total: a number that is not there, or that is no whole number
--- from 0 to 2^32-1, counts as 0, or as the greatest index; the rule on that number accepts neither. What is absent has its default.
-use Rattle.std.specs.Prelude.{ℕ, ℤ, pos, List, [], ◌∷◌, map, codes, option_and_then, option_map, unwrap_or}
+-- from 0 to 2^32-1, counts as 0, or as the greatest index, and what names no mode or matte as none; the rule on it accepts none of
+-- these. What is absent has its default.
+use Rattle.std.specs.Prelude.{ℕ, ℤ, pos, List, [], ◌∷◌, map, codes, Option, Some, option_and_then, option_map, unwrap_or}
+use Rattle.std.specs.Option.{option_map_or}
 use Rattle.serde_json.specs.Data.{Data}
 use Rattle.serde_json.specs.Find.{get}
 use Rattle.rational_time.specs.declared.time.Time.{Time}
 use Rattle.param_stream.specs.declared.key.Keyframe.{Keyframe}
+use Rattle.transfer_mode.specs.declared.mode.Mode.{Mode}
+use Rattle.transfer_mode.specs.declared.mode.Mode.TheVariants.{Normal}
+use Rattle.track_matte.specs.declared.matte.Matte.{Matte}
+use Rattle.track_matte.specs.declared.matte.Matte.TheVariants as matte
 use Rattle.project_model.specs.Bounds.{full_opacity}
+use Rattle.project_model.specs.Constant.{zero_time, constant_key}
 use Rattle.project_model.specs.declared.plain.PlainLayer.{PlainLayer}
 use Rattle.project_model.specs.declared.plain.PlainComp.{PlainComp}
 use Rattle.project_model.specs.declared.plain.PlainProject.{PlainProject}
 use Rattle.project_json.specs.Parts.{items_in, count_in}
-use Rattle.project_json.specs.Reads.{zero_time, time_in, constant_key, keys_in, no_solid, source_in}
+use Rattle.project_json.specs.Reads.{time_in, keys_in, mode_in, matte_in, no_solid, source_in}
 
 -- the count in the member of that name
 abbrev pub count_of : ℕ → List ℕ → Data → ℕ
@@ -31,12 +38,22 @@ keys_of other name d = unwrap_or (option_map keys_in (get name d)) (constant_key
 abbrev pub items_of : List ℕ → Data → List Data
 items_of name d = unwrap_or (option_map items_in (get name d)) []
 
+-- the mode that the member names, Normal where it is not there
+abbrev pub mode_of : Data → Option Mode
+mode_of layer = option_map_or mode_in (get (codes "mode") layer) (Some Normal)
+
+-- the matte that the member names, none where it is not there
+abbrev pub matte_of : Data → Option Matte
+matte_of layer = option_map_or matte_in (get (codes "matte") layer) (Some matte.None)
+
 abbrev pub plain_layer_of : Data → PlainLayer
 plain_layer_of layer = record {
   source = unwrap_or (option_map source_in (get (codes "source") layer)) no_solid;
   start = time_of (codes "start") layer;
   in_point = time_of (codes "in") layer;
   out_point = option_and_then time_in (get (codes "out") layer);
+  mode = mode_of layer;
+  matte = matte_of layer;
   opacity = keys_of full_opacity (codes "opacity") layer;
   x = keys_of (pos 0) (codes "x") layer;
   y = keys_of (pos 0) (codes "y") layer;

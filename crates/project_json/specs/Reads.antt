@@ -1,4 +1,4 @@
--- What the parts of a project are read as: times, keyframes and sources.
+-- What the parts of a project are read as: times, keyframes, modes, mattes and sources.
 use Rattle.std.specs.Prelude.{ℕ, ◌&&◌, ℤ, pos, negsuc, List, [], ◌∷◌, map, codes, if◌then◌else◌, Option, Some, None, option_and_then, option_map, unwrap_or}
 use Rattle.std.specs.Str.{bytes_eq}
 use Rattle.serde_json.specs.Data.{Data}
@@ -7,13 +7,15 @@ use Rattle.rational_time.specs.declared.time.Time.{Time}
 use Rattle.param_stream.specs.declared.key.Ease.{Ease}
 use Rattle.param_stream.specs.declared.key.Ease.TheVariants.{Hold, Linear, Smooth}
 use Rattle.param_stream.specs.declared.key.Keyframe.{Keyframe}
+use Rattle.transfer_mode.specs.Names.{mode_named}
+use Rattle.transfer_mode.specs.declared.mode.Mode.{Mode}
+use Rattle.track_matte.specs.Names.{matte_named}
+use Rattle.track_matte.specs.declared.matte.Matte.{Matte}
 use Rattle.project_model.specs.Bounds.{is_among, is_between}
+use Rattle.project_model.specs.Constant.{zero_time, constant_key}
 use Rattle.project_model.specs.declared.item.Item.{Item}
 use Rattle.project_model.specs.declared.item.Item.TheVariants.{Solid}
 use Rattle.project_json.specs.Parts.{items_in, is_number, whole_in, count_in}
-
-abbrev pub zero_time : Time
-zero_time = record { value = pos 0; scale = 1 }
 
 abbrev pub time_from : Option ℤ → Option ℕ → Option Time
 time_from (Some value) (Some scale) =
@@ -41,9 +43,13 @@ kind_named name =
 abbrev pub kind_in : Data → Option Ease
 kind_in d = option_and_then kind_named (as_str d)
 
--- the value at every tick
-abbrev pub constant_key : ℤ → Keyframe
-constant_key value = record { time = zero_time; value = value; kind = Hold }
+-- the name of a mode
+abbrev pub mode_in : Data → Option Mode
+mode_in d = option_and_then mode_named (as_str d)
+
+-- the name of a matte
+abbrev pub matte_in : Data → Option Matte
+matte_in d = option_and_then matte_named (as_str d)
 
 -- three items; one that is not of its kind counts as 0, as zero seconds or as hold
 abbrev pub key_from_items : List Data → Keyframe

@@ -26,7 +26,7 @@ const MOST_LAYERS_IN_ALL: usize = project_model::MOST_LAYERS_IN_ALL as usize;
 /// The rules on a project's form, by their numbers, before any on its numbers. They are this project's own.
 #[derive(Clone, Copy, Debug, PartialEq, Eq)]
 pub(crate) enum FormRule {
-    /// 0: no part that is not built yet: clips, nested compositions, modes, mattes, effects, depth 16, a second composition.
+    /// 0: no part that is not built yet: clips, nested compositions, effects, a second composition.
     Unbuilt,
     /// 1: every number, at any depth, is a whole number from -2^63 to 2^63-1, written without fraction or exponent.
     Whole,
@@ -121,9 +121,7 @@ impl FormRule {
 fn is_unbuilt(top: &Value) -> bool
     ensures { result ≡ breaks_project (view top.now) Unbuilt }
 {
-    is_anywhere(Sought::Unbuilt, top)
-        || is_number_of(top, "depth", 16)
-        || items_of(top, "comps").len() > 1
+    is_anywhere(Sought::Unbuilt, top) || items_of(top, "comps").len() > 1
 }
 
 /// The member of that name is there, and is this number.

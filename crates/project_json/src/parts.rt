@@ -158,7 +158,7 @@ fn has_any(value: &Value, names: &[&str]) -> bool
 pub(crate) fn has_unbuilt(value: &Value) -> bool
     ensures { result ≡ has_unbuilt (view value.now) }
 {
-    let names = ["clips", "clip", "comp", "mode", "matte", "effects"];
+    let names = ["clips", "clip", "comp", "effects"];
     has_any(value, &names)
 }
 

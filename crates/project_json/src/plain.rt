@@ -1,17 +1,22 @@
 ghost use Rattle.std.specs.Prelude.{◌≡◌, ℤ, ◌∷◌, [], map, IfOk, option_and_then, option_map, unwrap_or, codes};
 ghost use Rattle.serde_json.specs.Find.{get};
 ghost use Rattle.serde_json.specs.View.{view};
-ghost use Rattle.project_json.specs.Reads.{key_in, keys_in, time_in, constant_key, source_in, no_solid};
-ghost use Rattle.project_json.specs.PlainData.{count_of, time_of, keys_of, plain_layer_of, plain_comp_of, plain_of_data};
+ghost use Rattle.project_model.specs.Constant.{constant_key};
+ghost use Rattle.project_json.specs.Reads.{key_in, keys_in, time_in, source_in, no_solid};
+ghost use Rattle.project_json.specs.PlainData.{count_of, time_of, keys_of, mode_of, matte_of, plain_layer_of, plain_comp_of, plain_of_data};
 
 use crate::parts::{count_in, items_in, items_of, whole_in};
-use crate::reads::{NO_SOLID, ZERO_TIME, constant_key, key_in, source_in, time_in};
+use crate::reads::{
+    NO_SOLID, ZERO_TIME, constant_key, key_in, matte_in, mode_in, source_in, time_in,
+};
 use host_io::Memory;
 use param_stream::Keyframe;
 use project_model::{Collection, FULL_OPACITY, Item, PlainComp, PlainLayer, PlainProject};
 use rational_time::Time;
 use serde_json::Value;
 use std::alloc::Global;
+use track_matte::Matte;
+use transfer_mode::Mode;
 
 /// An index that names no composition.
 const NO_INDEX: u32 = 4_294_967_295;
@@ -98,6 +103,26 @@ fn source_of(layer: &Value) -> Item
     }
 }
 
+/// The mode that `mode` names, Normal where it is not there.
+fn mode_of(layer: &Value) -> Option<Mode>
+    ensures { result ≡ mode_of (view layer.now) }
+{
+    match layer.get("mode") {
+        Some(name) => mode_in(name),
+        None => Some(Mode::Normal),
+    }
+}
+
+/// The matte that `matte` names, none where it is not there.
+fn matte_of(layer: &Value) -> Option<Matte>
+    ensures { result ≡ matte_of (view layer.now) }
+{
+    match layer.get("matte") {
+        Some(name) => matte_in(name),
+        None => Some(Matte::None),
+    }
+}
+
 fn plain_layer(alloc: Global, layer: &Value) -> Result<PlainLayer, Memory>
     ensures { IfOk result (λ plain. plain ≡ plain_layer_of (view layer.now)) }
 {
@@ -106,6 +131,8 @@ fn plain_layer(alloc: Global, layer: &Value) -> Result<PlainLayer, Memory>
         start: time_of(layer, "start"),
         in_point: time_of(layer, "in"),
         out_point: end_of(layer, "out"),
+        mode: mode_of(layer),
+        matte: matte_of(layer),
         opacity: keys_of(alloc, layer, "opacity", FULL_OPACITY)?,
         x: keys_of(alloc, layer, "x", 0)?,
         y: keys_of(alloc, layer, "y", 0)?,

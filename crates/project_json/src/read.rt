@@ -39,7 +39,8 @@ fn value_of(alloc: Global, bytes: &[u8]) -> Result<Value, ProjectError>
 ///   as a time, how many frames it has, and the array of its layers, the topmost first.
 /// - A layer is an object with `source`, `{"solid":[width,height,alpha,red,green,blue]}`, and no names but `start`, `in`,
 ///   `out`, `mode`, `matte`, `opacity`, `x`, `y` and `effects`. `start` and `in` are times, zero seconds where they are absent.
-///   `out` is a time, the composition's end where it is absent. `opacity`, `x` and `y` are streams, 10,000, 0 and 0 where they
+///   `out` is a time, the composition's end where it is absent. `mode` is the name of a mode (see [`transfer_mode::Mode`]) and
+///   `matte` that of a matte (see [`track_matte::Matte`]), `"Normal"` and `"None"` where they are absent. `opacity`, `x` and `y` are streams, 10,000, 0 and 0 where they
 ///   are absent.
 /// - A time is `[value, scale]`, which is value / scale seconds. A stream is a number, which is its value at every time, or an
 ///   array of keyframes `[value, time, kind]`, whose kind is `"hold"`, `"linear"` or `"ease"`.
@@ -49,8 +50,8 @@ fn value_of(alloc: Global, bytes: &[u8]) -> Result<Value, ProjectError>
 /// its compositions, then each composition, first outside its layers, and then its layers in order. Each rule speaks of what
 /// those before it have let through.
 ///
-/// - 0: no object, at any depth, has a name `clips`, `clip`, `comp`, `mode`, `matte` or `effects`; `depth` is not 16; there is
-///   at most one composition. These parts are not built yet.
+/// - 0: no object, at any depth, has a name `clips`, `clip`, `comp` or `effects`; there is at most one composition. These parts
+///   are not built yet.
 /// - 1: each number, at any depth, is a whole number from -2^63 to 2^63-1, written without fraction or exponent.
 /// - 2: the value is an object of no names but the five.
 /// - 3, 4: `version` is there and 1; `depth` is there and 8 or 16.

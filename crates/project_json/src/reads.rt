@@ -1,6 +1,7 @@
 ghost use Rattle.std.specs.Prelude.{◌≡◌, Some, unwrap_or};
 ghost use Rattle.serde_json.specs.View.{view};
-ghost use Rattle.project_json.specs.Reads.{time_from, time_in, kind_named, kind_in, key_in, constant_key, solid_from_items, solid_in, source_in, no_solid, zero_time};
+ghost use Rattle.project_model.specs.Constant.{constant_key, zero_time};
+ghost use Rattle.project_json.specs.Reads.{time_from, time_in, kind_named, kind_in, mode_in, matte_in, key_in, solid_from_items, solid_in, source_in, no_solid};
 ghost use Rattle.project_json.specs.Parts.{items_in};
 
 use crate::parts::{count_in, items_in, whole_in};
@@ -8,6 +9,8 @@ use param_stream::{Ease, Keyframe};
 use project_model::Item;
 use rational_time::Time;
 use serde_json::Value;
+use track_matte::{Matte, matte_of_name};
+use transfer_mode::{Mode, mode_of_name};
 
 /// Zero seconds.
 pub(crate) const ZERO_TIME: Time = Time { value: 0, scale: 1 };
@@ -60,6 +63,20 @@ pub(crate) fn kind_in(value: &Value) -> Option<Ease>
     ensures { result ≡ kind_in (view value.now) }
 {
     kind_named(value.as_str()?)
+}
+
+/// The name of a mode.
+pub(crate) fn mode_in(value: &Value) -> Option<Mode>
+    ensures { result ≡ mode_in (view value.now) }
+{
+    mode_of_name(value.as_str()?)
+}
+
+/// The name of a matte.
+pub(crate) fn matte_in(value: &Value) -> Option<Matte>
+    ensures { result ≡ matte_in (view value.now) }
+{
+    matte_of_name(value.as_str()?)
 }
 
 /// The value at every tick.
