@@ -21,7 +21,7 @@ use Rattle.project_model.specs.declared.plain.PlainProject.{PlainProject}
 use Rattle.project_model.specs.declared.comp.Comp.{Comp}
 use Rattle.project_model.specs.declared.project.Project.{Project}
 use Rattle.scene_meaning.specs.Shown.{Showing, base_in, comp_shown, end_of_comp, placed_layers, shown, shown_in}
-use Rattle.frame_draw.specs.Layers.{IsOfLayers}
+use Rattle.frame_draw.specs.Layers.{AreOfLayers}
 use Rattle.frame_draw.specs.Drawn.{IsFrame}
 
 -- an earlier frame begins before a later one
@@ -57,21 +57,21 @@ lt_true a b h = by (int_lt a b) refl
 -- a composition within its time
 comp_in_time : (nested : Showing) (project : PlainProject) (comp : PlainComp) (base : ℕ) (t x y : ℤ) → base_in project ≡ base → pos 0 ≤ℤ t → t <ℤ end_of_comp base comp
     → comp_shown nested project (Some comp) t x y
-    ≡ (if has (frame_rect comp.width comp.height) x y then stack_at (most_of project.depth) (placed_layers nested base comp t comp.layers) x y else clear)
+    ≡ (if has (frame_rect comp.width comp.height) x y then stack_at (most_of project.depth) (placed_layers nested base comp t 0 comp.layers) x y else clear)
 comp_in_time nested project comp base t x y made begun within =
     ap (λ b. if int_le (pos 0) t && int_lt t (end_of_comp b comp) && has (frame_rect comp.width comp.height) x y
-    then stack_at (most_of project.depth) (placed_layers nested b comp t comp.layers) x y else clear) made
+    then stack_at (most_of project.depth) (placed_layers nested b comp t 0 comp.layers) x y else clear) made
     ∙ ap (λ b. if b && int_lt t (end_of_comp base comp) && has (frame_rect comp.width comp.height) x y
-    then stack_at (most_of project.depth) (placed_layers nested base comp t comp.layers) x y else clear) (le_true (pos 0) t begun)
+    then stack_at (most_of project.depth) (placed_layers nested base comp t 0 comp.layers) x y else clear) (le_true (pos 0) t begun)
     ∙ ap (λ b. if b && has (frame_rect comp.width comp.height) x y
-    then stack_at (most_of project.depth) (placed_layers nested base comp t comp.layers) x y else clear) (lt_true t (end_of_comp base comp) within)
+    then stack_at (most_of project.depth) (placed_layers nested base comp t 0 comp.layers) x y else clear) (lt_true t (end_of_comp base comp) within)
 
 -- the root, which is this composition, within its time
 root_in_time : (project : Project) (comp : Comp) (t x y : ℤ) → slice_get project.comps project.root ≡ Some comp
     → project.base.ticks ≡ common_base (times_of (plain_of project)) → pos 0 ≤ℤ t → t <ℤ end_of_comp project.base.ticks (plain_comp comp)
     → shown (plain_of project) project.root t x y
     ≡ (if has (frame_rect comp.width comp.height) x y
-    then stack_at (most_of project.depth) (placed_layers (shown_in 256 (plain_of project)) project.base.ticks (plain_comp comp) t (map plain_layer comp.layers)) x y
+    then stack_at (most_of project.depth) (placed_layers (shown_in 256 (plain_of project)) project.base.ticks (plain_comp comp) t 0 (map plain_layer comp.layers)) x y
     else clear)
 root_in_time project comp t x y root made begun within =
     ap (λ found. comp_shown (shown_in 256 (plain_of project)) (plain_of project) found t x y)
@@ -83,7 +83,7 @@ pub frame_is : {most : ℕ} (project : Project) (comp : Comp) (n : ℕ) (t : ℤ
     → most ≡ most_of project.depth → slice_get project.comps project.root ≡ Some comp
     → project.base.ticks ≡ common_base (times_of (plain_of project))
     → t ≡ tick_of_frame (pos n) (tick_of project.base.ticks comp.frame) → pos 0 ≤ℤ t → t <ℤ end_of_comp project.base.ticks (plain_comp comp)
-    → IsOfLayers project.base.ticks t comp comp.layers placed
+    → AreOfLayers project.base.ticks t (plain_comp comp) placed
     → frame ≡ frame_rect comp.width comp.height → ground.extent ≡ frame → ground.part ≡ frame → ((x y : ℤ) → at ground x y ≡ clear)
     → SameExtentAndPart ground world
     → ((x y : ℤ) → Has ground.part x y → at world x y ≡ stack_over most (map layer_of placed) x y (at ground x y))
@@ -97,16 +97,16 @@ frame_is {most} project comp n t frame ground world placed depth root made tick 
       ∙ ap (λ s. shown (plain_of project) project.root s x y) (tick ∙ ap (λ b. tick_of_frame (pos n) (tick_of b comp.frame)) made);
 }
   where
-    points : (x y : ℤ) → at world x y ≡ (if has (frame_rect comp.width comp.height) x y then stack_at (most_of project.depth) (placed_layers (shown_in 256 (plain_of project)) project.base.ticks (plain_comp comp) t (map plain_layer comp.layers)) x y else clear)
+    points : (x y : ℤ) → at world x y ≡ (if has (frame_rect comp.width comp.height) x y then stack_at (most_of project.depth) (placed_layers (shown_in 256 (plain_of project)) project.base.ticks (plain_comp comp) t 0 (map plain_layer comp.layers)) x y else clear)
     points x y = by (has (frame_rect comp.width comp.height) x y) refl
       where
         by : (b : Bool) → has (frame_rect comp.width comp.height) x y ≡ b
-            → at world x y ≡ (if b then stack_at (most_of project.depth) (placed_layers (shown_in 256 (plain_of project)) project.base.ticks (plain_comp comp) t (map plain_layer comp.layers)) x y else clear)
+            → at world x y ≡ (if b then stack_at (most_of project.depth) (placed_layers (shown_in 256 (plain_of project)) project.base.ticks (plain_comp comp) t 0 (map plain_layer comp.layers)) x y else clear)
         by true e =
             stacked x y (subst (λ (r : Rect). Has r x y) (sym (part ∙ here)) (Has-from_true (frame_rect comp.width comp.height) x y e))
             ∙ ap (stack_over most (map (layer_of {most = most}) placed) x y) (blank x y)
             ∙ ap (λ ls. stack_over most ls x y clear) (layers.same (shown_in 256 (plain_of project)))
-            ∙ ap (λ m. stack_over m (placed_layers (shown_in 256 (plain_of project)) project.base.ticks (plain_comp comp) t (map plain_layer comp.layers)) x y clear) depth
+            ∙ ap (λ m. stack_over m (placed_layers (shown_in 256 (plain_of project)) project.base.ticks (plain_comp comp) t 0 (map plain_layer comp.layers)) x y clear) depth
         by false e =
             ap (λ (r : Rect). if has r x y then get_or world.pixels (place_of world.part x y) clear else clear) (same.1 ∙ part ∙ here)
             ∙ ap (λ t. if t then get_or world.pixels (place_of world.part x y) clear else clear) e

@@ -1,5 +1,6 @@
 -- What a composition shows at a tick.
-use Rattle.std.specs.Prelude.{◌≡◌, ℕ, zero, suc, ◌+◌, ◌≤◌, ℤ, pos, ◌*ℤ◌, max, List, [], ◌∷◌, fold, slice_get, unsigned_abs, int_le, int_lt, Bool, ◌&&◌, if◌then◌else◌, Option, Some, None}
+use Rattle.std.specs.Prelude.{◌≡◌, ℕ, zero, suc, ◌+◌, ◌≤◌, ℤ, pos, ◌*ℤ◌, max, List, [], ◌∷◌, fold, slice_get, unsigned_abs, unwrap_or, int_le, int_lt, Bool, false, not, ◌&&◌, if◌then◌else◌, Option, Some, None}
+use Rattle.std.specs.Option.{option_map_or}
 use Rattle.geom_rect.specs.Rect.{has, frame_rect}
 use Rattle.argb_pixel.specs.Pixel.{Argb, clear}
 use Rattle.rational_time.specs.declared.time.Time.{Time}
@@ -7,8 +8,9 @@ use Rattle.rational_time.specs.Times.{tick_of, common_base}
 use Rattle.param_stream.specs.Curve.{value_at}
 use Rattle.transfer_mode.specs.declared.mode.Mode.TheVariants.{Normal}
 use Rattle.track_matte.specs.declared.matte.Matte.TheVariants as matte
-use Rattle.comp_stack.specs.Stack.{Plane, solid_plane, PlacedLayer, stack_at}
+use Rattle.comp_stack.specs.Stack.{Plane, solid_plane, PlacedPlane, PlacedLayer, stack_at}
 use Rattle.project_model.specs.Bounds.{most_of}
+use Rattle.project_model.specs.Rules.{has_matte, layer_above}
 use Rattle.project_model.specs.Times.{times_of}
 use Rattle.project_model.specs.declared.item.Item.{Item}
 use Rattle.project_model.specs.declared.item.Item.TheVariants.{Solid}
@@ -46,49 +48,68 @@ end_of_layer base comp (Some out) = tick_of base out
 abbrev pub is_seen : ℕ → PlainComp → ℤ → PlainLayer → Bool
 is_seen base comp t layer = int_le (tick_of base layer.in_point) t && int_lt t (end_of_layer base comp layer.out_point)
 
--- a layer as the stack sees it at a tick: where its streams put it
-abbrev pub placed_of : Showing → ℕ → ℤ → PlainLayer → PlacedLayer
-placed_of nested base t layer = record {
-  layer = record {
-    plane = source_plane nested base layer t;
-    x = value_at base layer.x t;
-    y = value_at base layer.y t;
-    opacity = unsigned_abs (value_at base layer.opacity t);
-  };
-  mode = Normal;
-  matte = matte.None;
-  over = None;
+-- a layer's plane where its streams put it at a tick
+abbrev pub plane_in : Showing → ℕ → ℤ → PlainLayer → PlacedPlane
+plane_in nested base t layer = record {
+  plane = source_plane nested base layer t;
+  x = value_at base layer.x t;
+  y = value_at base layer.y t;
+  opacity = unsigned_abs (value_at base layer.opacity t);
 }
 
--- the layers that are seen at a tick
-abbrev pub placed_layers : Showing → ℕ → PlainComp → ℤ → List PlainLayer → List PlacedLayer
-placed_layers nested base comp t [] = []
-placed_layers nested base comp t (layer ∷ lower) =
-    if is_seen base comp t layer
-    then placed_of nested base t layer ∷ placed_layers nested base comp t lower
-    else placed_layers nested base comp t lower
+-- the plane of a layer that is seen
+abbrev pub seen_plane : Showing → ℕ → PlainComp → ℤ → Option PlainLayer → Option PlacedPlane
+seen_plane nested base comp t None = None
+seen_plane nested base comp t (Some layer) = if is_seen base comp t layer then Some (plane_in nested base t layer) else None
 
--- A composition at a tick: the stack of the layers that are seen, within the frame and the composition's time, and
+-- what the matte of the layer of this index is taken from: the layer above, where it is seen
+abbrev pub matte_plane : Showing → ℕ → PlainComp → ℤ → ℕ → PlainLayer → Option PlacedPlane
+matte_plane nested base comp t index layer =
+    if has_matte layer then seen_plane nested base comp t (layer_above comp index) else None
+
+-- The layer of this index as the stack sees it at a tick. Where what is written names no mode or no matte, which no rule
+-- accepts, it is Normal, and has none.
+abbrev pub placed_of : Showing → ℕ → PlainComp → ℤ → ℕ → PlainLayer → PlacedLayer
+placed_of nested base comp t index layer = record {
+  layer = plane_in nested base t layer;
+  mode = unwrap_or layer.mode Normal;
+  matte = unwrap_or layer.matte matte.None;
+  over = matte_plane nested base comp t index layer;
+}
+
+-- the layer of this index is the matte of the one below it
+abbrev pub serves_as_matte : PlainComp → ℕ → Bool
+serves_as_matte comp index = option_map_or has_matte (slice_get comp.layers (index + 1)) false
+
+-- the layers from this index on that are shown at a tick: those that are seen, but for mattes
+abbrev pub placed_layers : Showing → ℕ → PlainComp → ℤ → ℕ → List PlainLayer → List PlacedLayer
+placed_layers nested base comp t index [] = []
+placed_layers nested base comp t index (layer ∷ lower) =
+    if is_seen base comp t layer && not (serves_as_matte comp index)
+    then placed_of nested base comp t index layer ∷ placed_layers nested base comp t (index + 1) lower
+    else placed_layers nested base comp t (index + 1) lower
+
+-- A composition at a tick: the stack of the layers that are shown, within the frame and the composition's time, and
 -- transparent elsewhere.
 abbrev pub comp_shown : Showing → PlainProject → Option PlainComp → ℤ → ℤ → ℤ → Argb
 comp_shown nested project None t x y = clear
 comp_shown nested project (Some comp) t x y =
     if int_le (pos 0) t && int_lt t (end_of_comp (base_in project) comp) && has (frame_rect comp.width comp.height) x y
-    then stack_at (most_of project.depth) (placed_layers nested (base_in project) comp t comp.layers) x y
+    then stack_at (most_of project.depth) (placed_layers nested (base_in project) comp t 0 comp.layers) x y
     else clear
 
 -- What the composition of an index shows, in so many turns: each nested composition takes one. Where they are as many as
--- its rank, more of them change nothing.
+-- it takes, more of them change nothing.
 abbrev pub shown_in : ℕ → PlainProject → Showing
 shown_in zero project index t x y = clear
 shown_in (suc turns) project index t x y = comp_shown (shown_in turns project) project (slice_get project.comps index) t x y
 
 -- how many turns a source and a composition take
-abbrev pub rank_of_source : Item → ℕ
-rank_of_source (Solid width height a r g b) = 0
+abbrev pub turns_of_source : Item → ℕ
+turns_of_source (Solid width height a r g b) = 0
 
-abbrev pub rank_of_comp : PlainComp → ℕ
-rank_of_comp comp = 1 + fold (λ greatest layer. max greatest (rank_of_source layer.source)) 0 comp.layers
+abbrev pub turns_of_comp : PlainComp → ℕ
+turns_of_comp comp = 1 + fold (λ greatest layer. max greatest (turns_of_source layer.source)) 0 comp.layers
 
 -- no project takes more
 abbrev pub enough_turns : ℕ
@@ -102,13 +123,13 @@ abbrev pub ShownIsOfWhatIsShown : Type 0
 ShownIsOfWhatIsShown =
     (project : PlainProject) (index : ℕ) (comp : PlainComp) (t x y : ℤ)
     → slice_get project.comps index ≡ Some comp
-    → rank_of_comp comp ≤ enough_turns
+    → turns_of_comp comp ≤ enough_turns
     → shown project index t x y ≡ comp_shown (shown project) project (Some comp) t x y
 
--- turns beyond the rank change nothing
+-- turns beyond those that it takes change nothing
 abbrev pub MoreTurnsChangeNothing : Type 0
 MoreTurnsChangeNothing =
     (project : PlainProject) (index turns more : ℕ) (comp : PlainComp) (t x y : ℤ)
     → slice_get project.comps index ≡ Some comp
-    → rank_of_comp comp ≤ turns
+    → turns_of_comp comp ≤ turns
     → shown_in (turns + more) project index t x y ≡ shown_in turns project index t x y

@@ -1,11 +1,18 @@
--- Worked examples: files of two pixels a frame, each byte worked by hand.
+-- Worked examples: files of one or two pixels a frame, each byte worked by hand.
 use Rattle.std.specs.Prelude.{◌≡◌, ℕ, ◌++◌, ℤ, pos, negsuc, List, [], ◌∷◌, Option, Some, None}
 use Rattle.rational_time.specs.declared.time.Time.{Time}
 use Rattle.param_stream.specs.declared.key.Ease.TheVariants.{Linear}
 use Rattle.param_stream.specs.declared.key.Keyframe.{Keyframe}
+use Rattle.transfer_mode.specs.declared.mode.Mode.{Mode}
+use Rattle.transfer_mode.specs.declared.mode.Mode.TheVariants.{Normal, Multiply}
+use Rattle.track_matte.specs.declared.matte.Matte.{Matte}
+use Rattle.track_matte.specs.declared.matte.Matte.TheVariants as matte
+use Rattle.project_model.specs.declared.item.Item.{Item}
 use Rattle.project_model.specs.declared.item.Item.TheVariants.{Solid}
+use Rattle.project_model.specs.declared.plain.PlainLayer.{PlainLayer}
 use Rattle.project_model.specs.declared.plain.PlainProject.{PlainProject}
-use Rattle.project_model.specs.Worked.{two_pixel_project, zero_time, constant}
+use Rattle.project_model.specs.Constant.{zero_time, constant}
+use Rattle.project_model.specs.Worked.{two_pixel_project}
 use Rattle.scene_meaning.specs.Output.{file}
 
 -- the header of so many frames from 0 on: two pixels by one, 8 bit, 24 frames a second
@@ -41,6 +48,8 @@ one_solid frames out x opacity = record {
       start = zero_time;
       in_point = zero_time;
       out_point = out;
+      mode = Some Normal;
+      matte = Some matte.None;
       opacity = constant opacity;
       x = x;
       y = constant (pos 0);
@@ -70,3 +79,55 @@ MovingIsDrawn =
 abbrev pub HalfIsDrawn : Type 0
 HalfIsDrawn =
     file (one_solid 1 None (constant (negsuc 0)) (pos 5000)) 0 0 ≡ two_pixel_header 1 ++ (128 ∷ 5 ∷ 10 ∷ 15 ∷ []) ++ no_bytes
+
+-- a layer at the origin, of one colour over one pixel
+abbrev pub one_pixel : Mode → Matte → ℤ → Item → PlainLayer
+one_pixel mode kind opacity item = record {
+  source = item;
+  start = zero_time;
+  in_point = zero_time;
+  out_point = None;
+  mode = Some mode;
+  matte = Some kind;
+  opacity = constant opacity;
+  x = constant (pos 0);
+  y = constant (pos 0);
+}
+
+-- one pixel by one, in one frame
+abbrev pub pixel_project : ℕ → List PlainLayer → PlainProject
+pixel_project depth layers = record {
+  depth = depth;
+  root = 0;
+  comps = record {
+    width = 1;
+    height = 1;
+    frame = record { value = pos 1; scale = 24 };
+    frames = 1;
+    layers = layers;
+  } ∷ [];
+}
+
+abbrev pub pixel_header : ℕ → List ℕ
+pixel_header depth =
+    65 ∷ 70 ∷ 82 ∷ 49 ∷ 0 ∷ 0 ∷ 0 ∷ 1 ∷ 0 ∷ 0 ∷ 0 ∷ 1 ∷ depth ∷ 0 ∷ 0 ∷ 0 ∷ 1 ∷ 0 ∷ 0 ∷ 0 ∷ 24 ∷ 0 ∷ 0 ∷ 0 ∷ 0 ∷ 0 ∷ 0 ∷ 0 ∷ 1 ∷ []
+
+-- a channel of 16 bits is two bytes, the higher first
+abbrev pub SixteenBitsAreDrawn : Type 0
+SixteenBitsAreDrawn =
+    file (pixel_project 16 (one_pixel Normal matte.None (pos 10000) (Solid 1 1 32768 16384 0 1) ∷ [])) 0 0
+    ≡ pixel_header 16 ++ 128 ∷ 0 ∷ 64 ∷ 0 ∷ 0 ∷ 0 ∷ 0 ∷ 1 ∷ []
+
+-- half opaque white as the alpha matte of red: red is halved, and the white is not seen
+abbrev pub MatteIsDrawn : Type 0
+MatteIsDrawn =
+    file (pixel_project 8 (one_pixel Normal matte.None (pos 5000) (Solid 1 1 255 255 255 255)
+    ∷ one_pixel Normal matte.Alpha (pos 10000) (Solid 1 1 255 255 0 0) ∷ [])) 0 0
+    ≡ pixel_header 8 ++ 128 ∷ 128 ∷ 0 ∷ 0 ∷ []
+
+-- opaque grey times opaque grey
+abbrev pub ModeIsDrawn : Type 0
+ModeIsDrawn =
+    file (pixel_project 8 (one_pixel Multiply matte.None (pos 10000) (Solid 1 1 255 128 128 128)
+    ∷ one_pixel Normal matte.None (pos 10000) (Solid 1 1 255 128 128 128) ∷ [])) 0 0
+    ≡ pixel_header 8 ++ 255 ∷ 64 ∷ 64 ∷ 64 ∷ []

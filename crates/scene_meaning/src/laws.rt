@@ -1,13 +1,13 @@
 //! Laws over the definitions, each the contract of a function that does nothing.
 ghost use Rattle.scene_meaning.specs.Shown.{ShownIsOfWhatIsShown, MoreTurnsChangeNothing};
-ghost use Rattle.scene_meaning.specs.Worked.{TwoPixelsAreDrawn, EndedIsNotDrawn, MovingIsDrawn, HalfIsDrawn};
+ghost use Rattle.scene_meaning.specs.Worked.{TwoPixelsAreDrawn, EndedIsNotDrawn, MovingIsDrawn, HalfIsDrawn, SixteenBitsAreDrawn, MatteIsDrawn, ModeIsDrawn};
 
 /// A composition shows its layers, whose nested compositions show what they show.
 pub fn shown_is_of_what_is_shown()
     ensures { ShownIsOfWhatIsShown }
 {}
 
-/// What a composition shows is told in as many turns as its rank; more of them change nothing.
+/// What a composition shows is told in as many turns as it takes; more of them change nothing.
 pub fn more_turns_change_nothing()
     ensures { MoreTurnsChangeNothing }
 {}
@@ -34,4 +34,22 @@ pub fn moving_is_drawn()
 #[tactic(auto, unfolding(frame_file::specs::Afr::header_bytes))]
 pub fn half_is_drawn()
     ensures { HalfIsDrawn }
+{}
+
+/// A pixel of 16 bits a channel.
+#[tactic(auto, unfolding(frame_file::specs::Afr::header_bytes))]
+pub fn sixteen_bits_are_drawn()
+    ensures { SixteenBitsAreDrawn }
+{}
+
+/// A layer under an alpha matte, which is not drawn itself.
+#[tactic(auto, unfolding(frame_file::specs::Afr::header_bytes))]
+pub fn matte_is_drawn()
+    ensures { MatteIsDrawn }
+{}
+
+/// A layer in another mode than Normal.
+#[tactic(auto, unfolding(frame_file::specs::Afr::header_bytes))]
+pub fn mode_is_drawn()
+    ensures { ModeIsDrawn }
 {}

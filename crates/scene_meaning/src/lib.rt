@@ -4,6 +4,6 @@
 mod laws;
 
 pub use laws::{
-    ended_is_not_drawn, half_is_drawn, more_turns_change_nothing, moving_is_drawn,
-    shown_is_of_what_is_shown, two_pixels_are_drawn,
+    ended_is_not_drawn, half_is_drawn, matte_is_drawn, mode_is_drawn, more_turns_change_nothing,
+    moving_is_drawn, shown_is_of_what_is_shown, sixteen_bits_are_drawn, two_pixels_are_drawn,
 };

@@ -1,32 +1,28 @@
-use Rattle.std.proofs.Common.{◌≡◌, ◌<◌, ◌∙◌, length, get_or, ap, sym, arith}
-use Rattle.project_model.specs.Sound.{IsSoundLayer}
-use Rattle.frame_draw.proofs.Placing.{holds_at, seen_more, unseen_more}
+use Rattle.project_model.specs.Plain.{plain_layer, plain_comp}
+use Rattle.frame_draw.proofs.Placing.{layer_at, shown_test, matte_test, unseen_test, one_shown, one_passed}
 use Rattle.frame_draw.proofs.layers.place_layers.Goals as goal
-use Rattle.frame_draw.proofs.layers.place_layers.Goals.{then-is_seen+in_ok-place_layer+in_ok-push, else-is_seen}
+use Rattle.frame_draw.proofs.layers.place_layers.Goals.{then-is_seen+then-not-serves_as_matte+in_ok-place_layer+in_ok-push, else-is_seen, else-is_seen-via-then-is_seen+else-not-serves_as_matte, else-is_seen-via-else-is_seen}
 
-pub is_seen-requires-clause-layer : goal.is_seen-requires-clause-layer
-is_seen-requires-clause-layer g c =
-    holds_at (IsSoundLayer c.args.project.now.depth c.args.project.now.base.ticks) c.args.comp.now.layers c.as_slice-layer-items.result.now c.loop-layer.layer-index c.layer-item.result c.requires.layers c.as_slice-layer-items.ensures c.loop-layer-test.true c.layer-item.is
-
-pub place_layer-requires : goal.place_layer-requires
-place_layer-requires g c =
-    (omega arith, (c.requires.depth, holds_at (IsSoundLayer c.args.project.now.depth c.args.project.now.base.ticks) c.args.comp.now.layers c.as_slice-layer-items.result.now c.loop-layer.layer-index c.layer-item.result c.requires.layers c.as_slice-layer-items.ensures c.loop-layer-test.true c.layer-item.is))
-
-pub loop-layer-preserved : goal.loop-layer-preserved
-loop-layer-preserved g c =
+pub loop-index-preserved : goal.loop-index-preserved
+loop-index-preserved g c =
     let base = c.args.project.now.base.ticks in
     let comp = c.args.comp.now in
     let t = c.args.tick.0 in
-    let i = c.loop-layer.layer-index in
+    let i = c.loop-index.index in
     let layer = c.layer-item.result in
-    let items = c.as_slice-layer-items.ensures in
-    let here : i < length comp.layers = omega (arith, ap length items, c.loop-layer-test.true) in
-    let is : layer ≡ get_or comp.layers i layer = c.layer-item.is ∙ ap (λ l. get_or l i layer) items in
+    let at = layer_at comp c.as_slice-layer-items.result.now i layer c.as_slice-layer-items.ensures c.loop-index-test.true c.layer-item.is in
     elim c.if-is_seen.branch [
-      | then-is_seen+in_ok-place_layer+in_ok-push w ↦
-          rw w.placed-is (seen_more {most = g.row.MAX} base comp t comp.layers layer i c.loop-layer.placed.items w.push.new.self.items w.in_ok-place_layer.field-0 here is
-          (sym c.is_seen.ensures ∙ w.if-is_seen.true) c.loop-layer.invariant w.in_ok-place_layer.ensures w.in_ok-push.ensures.items)
+      | then-is_seen+then-not-serves_as_matte+in_ok-place_layer+in_ok-push w ↦
+          rw w.placed-is (one_shown {most = g.row.MAX} base t (plain_comp comp) i (plain_layer layer) c.loop-index.placed.items w.push.new.self.items w.in_ok-place_layer.field-0
+          at.0 at.1 (shown_test _ _ _ _ c.is_seen.ensures w.serves_as_matte.ensures w.if-is_seen.true w.if-not-serves_as_matte.true)
+          c.loop-index.invariant w.in_ok-place_layer.ensures w.in_ok-push.ensures.items)
       | else-is_seen w ↦
-          rw w.placed-is (unseen_more {most = g.row.MAX} base comp t comp.layers layer i c.loop-layer.placed.items here is
-          (sym c.is_seen.ensures ∙ w.if-is_seen.false) c.loop-layer.invariant)
+          elim w.else-is_seen.branch [
+            | else-is_seen-via-then-is_seen+else-not-serves_as_matte v ↦
+                rw w.placed-is (one_passed {most = g.row.MAX} base t (plain_comp comp) i (plain_layer layer) c.loop-index.placed.items
+                at.0 at.1 (matte_test _ _ _ _ c.is_seen.ensures v.serves_as_matte.ensures v.if-is_seen.true v.if-not-serves_as_matte.false) c.loop-index.invariant)
+            | else-is_seen-via-else-is_seen v ↦
+                rw w.placed-is (one_passed {most = g.row.MAX} base t (plain_comp comp) i (plain_layer layer) c.loop-index.placed.items
+                at.0 at.1 (unseen_test _ _ _ c.is_seen.ensures v.if-is_seen.false) c.loop-index.invariant)
+          ]
     ]
