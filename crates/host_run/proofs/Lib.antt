@@ -1,3 +1,4 @@
 pub mod Ended
+pub mod Exit
 pub mod Frames
 pub mod Known

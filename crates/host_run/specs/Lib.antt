@@ -2,6 +2,7 @@ pub mod Ending
 pub mod Exit
 pub mod Headline
 pub mod Input
+pub mod Laws
 pub mod Outcome
 pub mod Run
 pub mod Stages

@@ -4,6 +4,7 @@
 mod arguments;
 mod host;
 mod input;
+mod laws;
 mod notes;
 mod output;
 mod settings;
@@ -12,6 +13,7 @@ mod words;
 
 pub use arguments::{ArgumentsError, program};
 pub use host::run;
+pub use laws::numbers_of_a_run;
 pub use settings::{
     DEFAULT_BUDGET, DEFAULT_NUMBER, DEFAULT_WORKERS, LAST_FRAME, RunMode, Settings,
 };
