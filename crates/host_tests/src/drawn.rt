@@ -5,10 +5,16 @@ use host_run::run;
 use std::alloc::Global;
 use std::test::Fail;
 
-/// The bytes behind the header of a composition of 3 by 1, with so many frames of 1/24 and these layers.
-fn drawn(alloc: Global, layers: &str, frames: u32) -> Result<Vec<u8>, Fail> {
+/// The bytes behind the header of a composition of this depth, width and height 1, with so many frames of 1/24 and these layers.
+pub(crate) fn rendered(
+    alloc: Global,
+    depth: u32,
+    width: u32,
+    frames: u32,
+    layers: &str,
+) -> Result<Vec<u8>, Fail> {
     let text = format!(in alloc;
-        "{{\"version\":1,\"depth\":8,\"root\":0,\"comps\":[{{\"width\":3,\"height\":1,\"frame\":[1,24],\"frames\":{frames},\"layers\":[{layers}]}}]}}"
+        "{{\"version\":1,\"depth\":{depth},\"root\":0,\"comps\":[{{\"width\":{width},\"height\":1,\"frame\":[1,24],\"frames\":{frames},\"layers\":[{layers}]}}]}}"
     )?;
     let mut project = NeverSource::new(text.as_bytes().to_vec(alloc)?, 1000);
     let mut out = NeverSink::new(alloc, 1000);
@@ -19,8 +25,13 @@ fn drawn(alloc: Global, layers: &str, frames: u32) -> Result<Vec<u8>, Fail> {
     Ok(out.bytes().get(29..).ok_or("a header")?.to_vec(alloc)?)
 }
 
+/// The same at depth 8 and width 3.
+fn drawn(alloc: Global, layers: &str, frames: u32) -> Result<Vec<u8>, Fail> {
+    rendered(alloc, 8, 3, frames, layers)
+}
+
 /// The bytes of pixels that are `.` for none, `C` for the colour, and `h` for it at half its opacity.
-fn pixels(alloc: Global, picture: &str) -> Result<Vec<u8>, Fail> {
+pub(crate) fn pixels(alloc: Global, picture: &str) -> Result<Vec<u8>, Fail> {
     let mut bytes = Vec::new(alloc);
     for pixel in picture.bytes() {
         let channels = match pixel {

@@ -6,6 +6,8 @@ mod drawn;
 #[cfg(test)]
 mod files;
 #[cfg(test)]
+mod mixed;
+#[cfg(test)]
 mod outside;
 #[cfg(test)]
 mod runs;

@@ -22,6 +22,22 @@ const SECOND_FRAME: &[u8] =
 const ONE_PIXEL_THRICE: &[u8] =
     b"{\"version\":1,\"depth\":8,\"root\":0,\"comps\":[{\"width\":1,\"height\":1,\"frame\":[1,24],\"frames\":3,\"layers\":[]}]}";
 
+const WIDE_PIXEL: &[u8] =
+    b"{\"version\":1,\"depth\":16,\"root\":0,\"comps\":[{\"width\":1,\"height\":1,\"frame\":[1,24],\"frames\":1,\"layers\":[{\"source\":{\"solid\":[1,1,32768,16384,0,1]}}]}]}";
+
+const WIDE_PIXEL_FILE: [u8; 37] = [
+    0x41, 0x46, 0x52, 0x31, 0, 0, 0, 1, 0, 0, 0, 1, 16, 0, 0, 0, 1, 0, 0, 0, 0x18, 0, 0, 0, 0, 0,
+    0, 0, 1, 0x80, 0, 0x40, 0, 0, 0, 0, 1,
+];
+
+/// A mode that is none, over a layer whose source is none.
+const NO_MODE: &[u8] =
+    b"{\"version\":1,\"depth\":8,\"root\":0,\"comps\":[{\"width\":1,\"height\":1,\"frame\":[1,24],\"frames\":1,\"layers\":[{\"mode\":\"Foo\",\"source\":{\"solid\":[1,1,255,1,2,3]}},{\"source\":{}}]}]}";
+
+/// A matte with no layer above it.
+const NO_LAYER_ABOVE: &[u8] =
+    b"{\"version\":1,\"depth\":8,\"root\":0,\"comps\":[{\"width\":1,\"height\":1,\"frame\":[1,24],\"frames\":1,\"layers\":[{\"matte\":\"Luma\",\"source\":{\"solid\":[1,1,255,1,2,3]}}]}]}";
+
 /// What a run over memory ended with and wrote.
 #[derive(Drop)]
 struct Ran {
@@ -65,11 +81,13 @@ fn run_over(
 }
 
 #[test]
-fn two_pixels_make_37_bytes(rt: HostRuntime) -> Result<(), Fail> {
-    let ran = run_over(rt.alloc(), "", TWO_PIXELS, 100, &[], &[])?;
-    assert_eq!(rt; ran.status, Status::Ok);
-    assert_eq!(rt; ran.out.as_slice(), TWO_PIXEL_FILE.as_slice());
-    assert_eq!(rt; ran.note.len(), 0);
+fn two_pixels_or_a_wide_one_make_37_bytes(rt: HostRuntime) -> Result<(), Fail> {
+    for (text, file) in [(TWO_PIXELS, TWO_PIXEL_FILE), (WIDE_PIXEL, WIDE_PIXEL_FILE)] {
+        let ran = run_over(rt.alloc(), "", text, 100, &[], &[])?;
+        assert_eq!(rt; ran.status, Status::Ok);
+        assert_eq!(rt; ran.out.as_slice(), file.as_slice());
+        assert_eq!(rt; ran.note.len(), 0);
+    }
     Ok(())
 }
 
@@ -123,10 +141,17 @@ fn words_are_settings_or_refused(rt: HostRuntime) -> Result<(), Fail> {
 #[test]
 fn refusals_write_a_line_and_no_file(rt: HostRuntime) -> Result<(), Fail> {
     let alloc = rt.alloc();
-    let cases: [(&str, &[u8], Status, &str); 10] = [
+    let cases: [(&str, &[u8], Status, &str); 12] = [
         ("", b"[", Status::Project, "afhost: project is not JSON\n"),
         ("", b"", Status::Project, "afhost: project is not JSON\n"),
         ("", b"[1.5]", Status::Project, "afhost: project rule 1\n"),
+        ("", NO_MODE, Status::Project, "afhost: project rule 9\n"),
+        (
+            "",
+            NO_LAYER_ABOVE,
+            Status::Project,
+            "afhost: project rule 33\n",
+        ),
         (
             "--from|1",
             TWO_PIXELS,

@@ -2,4 +2,10 @@
 #![tactic(auto)]
 
 #[cfg(test)]
-mod reading;
+mod edits;
+#[cfg(test)]
+mod form;
+#[cfg(test)]
+mod numbers;
+#[cfg(test)]
+mod values;
