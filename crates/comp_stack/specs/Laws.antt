@@ -35,7 +35,7 @@ abbrev pub StackIsPremultiplied : Type 0
 StackIsPremultiplied = (most : ℕ) (layers : List PlacedLayer) (x y : ℤ) (below : Argb) → IsDepth most
     → AllByRecursion (IsPremultipliedLayer most) layers → IsPremultiplied most below → IsPremultiplied most (stack_over most layers x y below)
 
--- one opaque Normal layer with no matte at full opacity is itself
+-- one Normal layer with no matte, at full opacity, is itself
 abbrev pub OneLayerIsItself : Type 0
 OneLayerIsItself = (most : ℕ) (layer : PlacedLayer) (x y : ℤ) → IsDepth most → IsPremultipliedLayer most layer
     → layer.mode ≡ Normal → layer.matte ≡ matte.None → layer.layer.opacity ≡ 10000

@@ -1,5 +1,5 @@
--- Layers in a stack, at each point by itself. The modes and the kinds of matte are those of the After Effects C++ SDK
--- Guide; what is computed is this project's own.
+-- Layers in a stack, at each point by itself. The kinds of matte are those of the After Effects C++ SDK Guide; the modes and
+-- what is computed are this project's own.
 use Rattle.std.specs.Prelude.{ℕ, ℤ, ◌-ℤ◌, List, [], ◌∷◌, Option, Some, None, if◌then◌else◌}
 use Rattle.geom_rect.specs.declared.rect.Rect.{Rect}
 use Rattle.geom_rect.specs.Rect.{has, frame_rect}

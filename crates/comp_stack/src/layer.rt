@@ -24,6 +24,6 @@ pub struct Placed<const MAX: u32> {
     pub mode: Mode,
     /// What is taken from its matte.
     pub matte: Matte,
-    /// The layer that its matte is taken from, `None` where that one is not seen.
+    /// The layer that its matte is taken from, `None` where that one is not seen, or there is no matte.
     pub over: Option<Shown<MAX>>,
 }

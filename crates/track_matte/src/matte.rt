@@ -7,7 +7,7 @@ ghost use Rattle.track_matte.specs.declared.matte.Matte.TheVariants.{Alpha, Alph
 
 use argb_pixel::{Combine, Pixel, combine_row};
 
-/// What a layer's matte is taken from. The kinds are those of the After Effects C++ SDK Guide; what each lets
+/// What is taken from a layer's matte. The kinds are those of the After Effects C++ SDK Guide; what each lets
 /// through is this project's own.
 #[derive(Clone, Copy, Debug, PartialEq, Eq, Drop)]
 pub enum Matte {

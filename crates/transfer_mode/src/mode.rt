@@ -1,8 +1,8 @@
 ghost use Rattle.std.specs.Prelude.{◌≡◌};
 ghost use Rattle.transfer_mode.specs.Names.{mode_named};
 
-/// How a source lies over a destination. The names are those of the After Effects C++ SDK Guide's transfer
-/// modes and of a project; what each computes is this project's own.
+/// How a source lies over a destination. The names are those of a project; they and what each computes are this
+/// project's own.
 #[derive(Clone, Copy, Debug, PartialEq, Eq, Drop)]
 pub enum Mode {
     /// The source is seen.
