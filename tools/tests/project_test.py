@@ -12,6 +12,11 @@ COMP = ("comps", 0)
 LAYER = ("comps", 0, "layers", 0)
 SOLID = (*LAYER, "source", "solid")
 KEY = [5, [0, 1], "hold"]
+EMPTY = {"width": 1, "height": 1, "frame": [1, 24], "frames": 1, "layers": []}
+POINT = {"source": {"solid": [1, 1, 0, 0, 0, 0]}}
+MODES = """Normal Multiply Screen Darken Lighten Difference Exclusion Add Subtract LinearBurn HardLight Overlay LinearLight
+    PinLight HardMix ColorDodge ColorBurn StencilAlpha SilhouetteAlpha StencilLuma SilhouetteLuma""".split()
+MATTES = ["None", "Alpha", "AlphaInverted", "Luma", "LumaInverted"]
 # What is changed in a project that fits, to what, and the rule of the host that is broken then.
 BROKEN = [
     (("name",), "x", 2),
@@ -20,7 +25,8 @@ BROKEN = [
     (("version",), "1", 3),
     (("depth",), GONE, 4),
     (("depth",), 10, 4),
-    (("depth",), 16, 0),
+    (("depth",), "16", 4),
+    (("depth",), 0, 4),
     (("root",), GONE, 16),
     (("root",), 1, 16),
     (("root",), -1, 16),
@@ -28,6 +34,7 @@ BROKEN = [
     (("comps",), GONE, 6),
     (("comps",), [], 6),
     (("comps",), {}, 6),
+    (("comps",), [EMPTY, EMPTY], 0),
     (COMP, [], 6),
     ((*COMP, "name"), "x", 6),
     ((*COMP, "width"), GONE, 6),
@@ -43,14 +50,25 @@ BROKEN = [
     ((*COMP, "frame"), "1/24", 15),
     ((*COMP, "layers"), GONE, 6),
     ((*COMP, "layers"), {}, 7),
-    ((*COMP, "layers"), [{"source": {"solid": [1, 1, 0, 0, 0, 0]}}] * 129, 7),
+    ((*COMP, "layers"), [POINT] * 129, 7),
     (LAYER, {}, 7),
     ((*LAYER, "name"), "x", 7),
-    ((*LAYER, "mode"), "Normal", 0),
-    ((*LAYER, "matte"), "None", 0),
     ((*LAYER, "effects"), [], 0),
+    ((*LAYER, "mode"), "normal", 31),
+    ((*LAYER, "mode"), "Dissolve", 31),
+    ((*LAYER, "mode"), "", 31),
+    ((*LAYER, "mode"), 0, 31),
+    ((*LAYER, "mode"), None, 31),
+    ((*LAYER, "matte"), "none", 32),
+    ((*LAYER, "matte"), "InvertedAlpha", 32),
+    ((*LAYER, "matte"), 0, 32),
+    ((*LAYER, "matte"), None, 32),
+    ((*LAYER, "matte"), ["None"], 32),
+    *[((*LAYER, "matte"), matte, 33) for matte in MATTES[1:]],
+    ((*COMP, "layers"), [{**POINT, "matte": "Luma"}, POINT], 33),
     ((*LAYER, "source"), {}, 9),
     ((*LAYER, "source"), {"clip": 0}, 0),
+    ((*LAYER, "source"), {"comp": 0}, 0),
     ((*LAYER, "source"), {"solid": [1, 1, 0, 0, 0, 0], "still": 1}, 9),
     (SOLID, [1, 1, 255, 0, 0], 27),
     (SOLID, [1, 1, 255, 0, 0, 0, 0], 27),
@@ -58,6 +76,7 @@ BROKEN = [
     (SOLID, [1, 1, 255, -1, 0, 0], 27),
     (SOLID, [0, 1, 255, 0, 0, 0], 27),
     (SOLID, [1, 4097, 255, 0, 0, 0], 27),
+    (SOLID, [1, 1, 32768, 0, 0, 0], 27),
     ((*LAYER, "start"), [1], 15),
     ((*LAYER, "start"), [2147483648, 1], 15),
     ((*LAYER, "in"), [1, -1], 15),
@@ -80,6 +99,23 @@ BROKEN = [
     ((*LAYER, "y"), -32769, 36),
     ((*LAYER, "y"), [KEY] * 4097, 14),
 ]
+# The same in a project of depth 16.
+BROKEN_AT_16 = [
+    (SOLID, [1, 1, 32769, 0, 0, 0], 27),
+    (SOLID, [1, 1, 32768, 0, 0, 32769], 27),
+    (SOLID, [1, 1, 65535, 0, 0, 0], 27),
+    (SOLID, [1, 1, -1, 0, 0, 0], 27),
+    ((*LAYER, "mode"), "Lighter", 31),
+    ((*LAYER, "matte"), "Alpha", 33),
+]
+# What the host refuses and a schema cannot say.
+UNSAID = [
+    (SOLID, [1, 1, 100, 101, 0, 0], 27),
+    (SOLID, [4096, 2161, 0, 0, 0, 0], 27),
+    ((*LAYER, "in"), [1, 1], 34),
+    ((*LAYER, "opacity"), [KEY, KEY], 35),
+    ((*COMP, "layers"), [POINT, {**POINT, "matte": "Alpha"}, {**POINT, "matte": "Luma"}], 33),
+]
 FITTING = [
     ((*LAYER, "opacity"), [KEY, [10000, [1, 24], "ease"], [0, [1, 12], "linear"]]),
     ((*LAYER, "x"), [[-32768, [-1, 24], "linear"], [32767, [36000, 1], "hold"]]),
@@ -89,6 +125,17 @@ FITTING = [
     ((*LAYER, "start"), [-5, 24]),
     ((*COMP, "layers"), []),
     (SOLID, [4096, 2160, 0, 0, 0, 0]),
+    (SOLID, [1, 1, 255, 255, 255, 255]),
+    *[((*LAYER, "mode"), mode) for mode in MODES],
+    ((*LAYER, "matte"), "None"),
+    *[((*COMP, "layers"), [POINT, {**POINT, "matte": matte, "mode": "Add"}]) for matte in MATTES],
+    ((*COMP, "layers"), [POINT, {**POINT, "matte": "Luma"}, POINT, {**POINT, "matte": "Luma"}]),
+]
+FITTING_AT_16 = [
+    (SOLID, [1, 1, 32768, 32768, 0, 1]),
+    (SOLID, [1, 1, 256, 256, 256, 256]),
+    ((*LAYER, "mode"), "SilhouetteLuma"),
+    ((*COMP, "layers"), [POINT, {**POINT, "matte": "AlphaInverted"}]),
 ]
 VALIDATOR = """
 import json, jsonschema, sys
@@ -99,9 +146,10 @@ json.dump([check.is_valid(value) for value in values], sys.stdout)
 """
 
 
-def changed(keys, value):
-    """The smallest project with one member changed or gone."""
+def changed(keys, value, depth=8):
+    """The smallest project, of this depth, with one member changed or gone."""
     project = json.loads((TOP / "examples" / "two_pixels.json").read_bytes())
+    project["depth"] = depth
     *above, last = keys
     place = project
     for key in above:
@@ -111,6 +159,22 @@ def changed(keys, value):
     else:
         place[last] = value
     return project
+
+
+def fitting():
+    """The projects of the tables that the host takes."""
+    return [changed(*row) for row in FITTING] + [changed(*row, depth=16) for row in FITTING_AT_16]
+
+
+def broken():
+    """The projects of the tables that do not fit, each with its broken rule."""
+    at_8 = [(changed(keys, value), rule) for keys, value, rule in BROKEN]
+    return at_8 + [(changed(keys, value, depth=16), rule) for keys, value, rule in BROKEN_AT_16]
+
+
+def unsaid():
+    """The projects that fit and that the host refuses, each with its broken rule."""
+    return [(changed(keys, value), rule) for keys, value, rule in UNSAID]
 
 
 def validating_python():
@@ -134,23 +198,34 @@ class Schema(Case):
         self.assertEqual(self.valid([json.loads(path.read_bytes()) for path in EXAMPLES]), [True] * len(EXAMPLES))
 
     def test_what_the_host_takes_fits(self):
-        self.assertEqual(self.valid([changed(*row) for row in FITTING]), [True] * len(FITTING))
+        projects = fitting()
+        fits = self.valid(projects)
+        self.assertEqual([it for it, is_valid in zip(projects, fits) if not is_valid], [])
 
     def test_broken_projects_do_not_fit(self):
-        fits = self.valid([changed(keys, value) for keys, value, _ in BROKEN])
-        self.assertEqual([row for row, is_valid in zip(BROKEN, fits) if is_valid], [])
+        fits = self.valid([project for project, _ in broken()])
+        self.assertEqual([it for it, is_valid in zip(broken(), fits) if is_valid], [])
 
-    def test_the_host_reads_what_the_table_says(self):
+    def test_what_a_schema_cannot_say_fits(self):
+        self.assertEqual(self.valid([project for project, _ in unsaid()]), [True] * len(UNSAID))
+
+    def test_the_host_reads_what_the_tables_say(self):
         program = host()
         if not program:
             self.skipTest("no program is built, and no release fits")
-        for keys, value in FITTING:
-            with self.subTest(keys, value=value):
-                self.well(program, given=json.dumps(changed(keys, value)).encode())
-        for keys, value, rule in BROKEN:
-            with self.subTest(keys, rule=rule):
-                given = json.dumps(changed(keys, value)).encode()
-                self.refused(program, given=given, status=3, why=f"afhost: project rule {rule}")
+        for project in fitting():
+            with self.subTest(project=project):
+                self.well(program, given=json.dumps(project).encode())
+        for project, rule in broken() + unsaid():
+            with self.subTest(project=project, rule=rule):
+                given = json.dumps(project).encode()
+                done = self.refused(program, given=given, status=3)
+                self.assertEqual(done.stderr.decode(), f"afhost: project rule {rule}\n")
+
+    def test_the_names_are_those_of_the_schema(self):
+        schema = json.loads((TOP / "docs" / "project.schema.json").read_bytes())
+        self.assertEqual(schema["$defs"]["mode"]["enum"], MODES)
+        self.assertEqual(schema["$defs"]["matte"]["enum"], MATTES)
 
     def test_each_member_has_a_sentence(self):
         schema = json.loads((TOP / "docs" / "project.schema.json").read_bytes())
