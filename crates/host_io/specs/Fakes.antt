@@ -31,3 +31,14 @@ pub record NeverSinkState : Type 0 where
 -- one more, where a u64 has room for it
 abbrev pub next_count : ℕ → ℕ
 next_count n = min (n + 1) last_count
+
+-- clips in memory, by name: the calls that fail, the calls and faults so far
+pub record MemClipsState : Type 0 where
+  pub clips : List (List ℕ × List ℕ)
+  pub fails : List ℕ
+  pub calls : ℕ
+  pub faults : ℕ
+
+-- clips in memory whose calls never fail
+pub record NeverClipsState : Type 0 where
+  pub clips : List (List ℕ × List ℕ)

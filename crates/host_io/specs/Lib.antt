@@ -1,3 +1,4 @@
 pub mod Cause
 pub mod Fakes
 pub mod Status
+pub mod Clips

@@ -2,12 +2,16 @@
 #![tactic(auto)]
 
 mod cause;
+mod clips;
+mod disk;
 mod sink;
 mod source;
 mod standard;
 mod status;
 
 pub use cause::{Failed, Memory, SinkError};
+pub use clips::{ClipStore, MemClips, NeverClips};
+pub use disk::{DiskClips, FolderClips};
 pub use sink::{MemSink, NeverSink, Sink};
 pub use source::{MemSource, NeverSource, Source};
 pub use standard::{Reading, StdNotes, StdSink, StdSource, Writing};

@@ -28,7 +28,7 @@ pub trait Source {
 }
 
 // Copies the next bytes, at most a piece of them, and answers how many.
-fn copy_next(bytes: &[u8], at: usize, piece: usize, into: &mut [u8]) -> usize
+pub(crate) fn copy_next(bytes: &[u8], at: usize, piece: usize, into: &mut [u8]) -> usize
     requires { at ≤ length bytes.now }
     ensures count { result ≡ min piece (min (length into.old) (length (drop at bytes.now))) }
     ensures copied { take result into.new ≡ take result (drop at bytes.now) }

@@ -9,7 +9,7 @@ use std::io::{ErrorKind, Read, Stderr, Stdin, Stdout, Write};
 
 // Reads once, and again where a signal broke the call off.
 #[tactic(auto, using(crate::proofs::Known::keeps_none, crate::proofs::Known::keeps_both, crate::proofs::Known::kept_consumes))]
-fn read_some<R: Read>(reader: &mut R, into: &mut [u8]) -> Result<usize, Failed>
+pub(crate) fn read_some<R: Read>(reader: &mut R, into: &mut [u8]) -> Result<usize, Failed>
     ensures bound { ReadsAtMost result into.new }
     ensures bytes { ReadConsumes (R.remaining reader.old) (R.remaining reader.new) result into.new }
 {

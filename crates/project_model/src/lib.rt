@@ -4,6 +4,7 @@
 mod bounds;
 mod breaks;
 mod build;
+mod clip;
 mod collection;
 mod comp;
 mod copy;
@@ -25,6 +26,7 @@ pub use bounds::{
     GREATEST_SIDE, LEAST_POSITION, MOST_COMPS, MOST_FRAMES, MOST_KEYS, MOST_LAYERS,
     MOST_LAYERS_IN_ALL, is_among, is_between, is_colour, is_size, most_of,
 };
+pub use clip::{ClipUse, Text};
 pub use collection::Collection;
 pub use comp::Comp;
 pub use item::Item;
