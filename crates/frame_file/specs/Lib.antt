@@ -1,1 +1,4 @@
 pub mod Afr
+pub mod Clip
+pub mod Load
+pub mod Laws

@@ -1,0 +1,89 @@
+-- A pixel of a clip, by its place among the pixels.
+use Rattle.std.proofs.Common.{◌≡◌, ℕ, ◌+◌, ◌-◌, ◌*◌, ◌<◌, ◌≤◌, ◌≢◌, ◌⊎◌, inl, inr, List, ◌∷◌, length, take, drop, get_or, None, sym, ap, subst, ◌∙◌, arith, length-drop}
+use Rattle.std.proofs.Math.Nat.{mul-le-mul_left}
+use Rattle.argb_pixel.specs.Pixel.{Argb, IsPremultiplied, clear}
+use Rattle.project_model.specs.Bounds.{most_of}
+use Rattle.frame_file.specs.Clip.{pixels_of, pixels_of_8, pixels_of_16, head_of_8, head_of_16, first_bad, in_depth, header_length, pixel_size}
+use Rattle.frame_file.proofs.Scan.{next_8, next_16, from_8, from_16, found_at, sound_at, rest_is}
+
+-- a point of a picture is a pixel of the clip
+pub place_within : (picture frames w h x y : ℕ) → picture < frames → x < w → y < h → (picture * h + y) * w + x < frames * (w * h)
+place_within picture frames w h x y p c r =
+    let more : picture + 1 ≤ frames = omega arith in
+    let rows : picture * h + y + 1 ≤ frames * h = omega (arith, mul-le-mul_left h more) in
+    let all : w * (picture * h + y + 1) ≤ w * (frames * h) = mul-le-mul_left w rows in
+    omega (arith, all)
+
+-- the bytes from a place on, as a slice of all
+abbrev pub behind : ℕ → List ℕ → List ℕ
+behind n xs = take (length xs - n) (drop n xs)
+
+behind_is : (n : ℕ) (xs ys : List ℕ) → ys ≡ xs → behind n (behind header_length ys) ≡ drop n (drop header_length xs)
+behind_is n xs ys e = rest_is n (behind header_length ys) ∙ ap (drop n) (rest_is header_length ys) ∙ ap (λ zs. drop n (drop header_length zs)) e
+
+at_8 : (bytes : List ℕ) (p : ℕ) → p * 4 + 4 ≤ length bytes → drop p (pixels_of_8 bytes) ≡ head_of_8 (drop (p * 4) bytes) ∷ pixels_of_8 (drop 4 (drop (p * 4) bytes))
+at_8 bytes p h = from_8 p bytes ∙ next_8 (drop (p * 4) bytes) (omega (arith, length-drop (p * 4) bytes))
+
+at_16 : (bytes : List ℕ) (p : ℕ) → p * 8 + 8 ≤ length bytes → drop p (pixels_of_16 bytes) ≡ head_of_16 (drop (p * 8) bytes) ∷ pixels_of_16 (drop 8 (drop (p * 8) bytes))
+at_16 bytes p h = from_16 p bytes ∙ next_16 (drop (p * 8) bytes) (omega (arith, length-drop (p * 8) bytes))
+
+-- a clip's bytes, and a place of a pixel in them
+pub record HasPixel (xs : List ℕ) (depth p : ℕ) : Type 0 where
+  pub sound : first_bad (most_of depth) (pixels_of depth (drop header_length xs)) ≡ None
+  pub count : ℕ
+  pub within : p < count
+  pub long : length xs ≡ header_length + count * pixel_size depth
+
+room : (xs : List ℕ) (size p count : ℕ) → p < count → length xs ≡ 29 + count * size → p * size + size ≤ length (drop header_length xs)
+room xs size p count h l =
+    let more : p + 1 ≤ count = omega arith in
+    omega (arith, length-drop 29 xs, mul-le-mul_left size more)
+
+-- of 8 bits
+sound_of_8 : (xs : List ℕ) (depth p : ℕ) → depth ≡ 8 → HasPixel xs depth p → first_bad 255 (pixels_of_8 (drop header_length xs)) ≡ None
+sound_of_8 xs depth p e h =
+    let P : ℕ → Type 0 = λ n. first_bad (most_of n) (pixels_of n (drop header_length xs)) ≡ None in subst P e h.sound
+
+room_of_8 : (xs : List ℕ) (depth p : ℕ) → depth ≡ 8 → HasPixel xs depth p → p * 4 + 4 ≤ length (drop header_length xs)
+room_of_8 xs depth p e h = room xs 4 p h.count h.within (h.long ∙ ap (λ n. header_length + h.count * pixel_size n) e)
+
+pub premultiplied_8 : (xs ys : List ℕ) (depth p : ℕ) → depth ≡ 8 → ys ≡ xs → HasPixel xs depth p → IsPremultiplied 255 (head_of_8 (behind (p * 4) (behind header_length ys)))
+premultiplied_8 xs ys depth p e s h =
+    let P : List ℕ → Type 0 = λ zs. IsPremultiplied 255 (head_of_8 zs) in
+    subst P (sym (behind_is (p * 4) xs ys s))
+    (sound_at 255 p _ _ _ (sound_of_8 xs depth p e h) (at_8 (drop header_length xs) p (room_of_8 xs depth p e h)))
+
+pub shown_8 : (most : ℕ) (xs ys : List ℕ) (depth p q : ℕ) (pixel result : Argb) → depth ≡ 8 → ys ≡ xs → p ≡ q → HasPixel xs depth p → pixel ≡ head_of_8 (behind (p * 4) (behind header_length ys)) → result ≡ in_depth 255 most pixel → result ≡ in_depth (most_of depth) most (get_or (pixels_of depth (drop header_length xs)) q clear)
+shown_8 most xs ys depth p q pixel result e s same h is made =
+    let bytes : List ℕ = drop header_length xs in
+    let found : get_or (pixels_of_8 bytes) p clear ≡ head_of_8 (drop (p * 4) bytes) = found_at p _ _ _ (at_8 bytes p (room_of_8 xs depth p e h)) in
+    made
+    ∙ ap (in_depth 255 most) (is ∙ ap head_of_8 (behind_is (p * 4) xs ys s) ∙ sym found ∙ ap (λ k. get_or (pixels_of_8 bytes) k clear) same)
+    ∙ ap (λ n. in_depth (most_of n) most (get_or (pixels_of n bytes) q clear)) (sym e)
+
+-- of 16 bits
+sound_of_16 : (xs : List ℕ) (depth p : ℕ) → depth ≡ 16 → HasPixel xs depth p → first_bad 32768 (pixels_of_16 (drop header_length xs)) ≡ None
+sound_of_16 xs depth p e h =
+    let P : ℕ → Type 0 = λ n. first_bad (most_of n) (pixels_of n (drop header_length xs)) ≡ None in subst P e h.sound
+
+room_of_16 : (xs : List ℕ) (depth p : ℕ) → depth ≡ 16 → HasPixel xs depth p → p * 8 + 8 ≤ length (drop header_length xs)
+room_of_16 xs depth p e h = room xs 8 p h.count h.within (h.long ∙ ap (λ n. header_length + h.count * pixel_size n) e)
+
+pub premultiplied_16 : (xs ys : List ℕ) (depth p : ℕ) → depth ≡ 16 → ys ≡ xs → HasPixel xs depth p → IsPremultiplied 32768 (head_of_16 (behind (p * 8) (behind header_length ys)))
+premultiplied_16 xs ys depth p e s h =
+    let P : List ℕ → Type 0 = λ zs. IsPremultiplied 32768 (head_of_16 zs) in
+    subst P (sym (behind_is (p * 8) xs ys s))
+    (sound_at 32768 p _ _ _ (sound_of_16 xs depth p e h) (at_16 (drop header_length xs) p (room_of_16 xs depth p e h)))
+
+pub shown_16 : (most : ℕ) (xs ys : List ℕ) (depth p q : ℕ) (pixel result : Argb) → depth ≡ 16 → ys ≡ xs → p ≡ q → HasPixel xs depth p → pixel ≡ head_of_16 (behind (p * 8) (behind header_length ys)) → result ≡ in_depth 32768 most pixel → result ≡ in_depth (most_of depth) most (get_or (pixels_of depth (drop header_length xs)) q clear)
+shown_16 most xs ys depth p q pixel result e s same h is made =
+    let bytes : List ℕ = drop header_length xs in
+    let found : get_or (pixels_of_16 bytes) p clear ≡ head_of_16 (drop (p * 8) bytes) = found_at p _ _ _ (at_16 bytes p (room_of_16 xs depth p e h)) in
+    made
+    ∙ ap (in_depth 32768 most) (is ∙ ap head_of_16 (behind_is (p * 8) xs ys s) ∙ sym found ∙ ap (λ k. get_or (pixels_of_16 bytes) k clear) same)
+    ∙ ap (λ n. in_depth (most_of n) most (get_or (pixels_of n bytes) q clear)) (sym e)
+
+-- a depth that is not 8
+pub else_16 : (depth : ℕ) → (depth ≡ 8) ⊎ (depth ≡ 16) → depth ≢ 8 → depth ≡ 16
+else_16 depth (inl e) n = absurd (n e)
+else_16 depth (inr e) n = e

@@ -1,0 +1,159 @@
+//! Clips: pictures that were read from the bytes of a file.
+ghost use Rattle.std.specs.Prelude.{◌≡◌, ◌+◌, ◌*◌, ◌<◌, ◌≤◌, length, drop, get_or, None, Ok, Err, IfOk, IfErr, IsErrOf, MatchResult};
+ghost use Rattle.argb_pixel.specs.Depth.{IsDepth};
+ghost use Rattle.argb_pixel.specs.Pixel.{IsPremultiplied};
+ghost use Rattle.project_model.specs.Bounds.{most_of, greatest_side, most_frames};
+ghost use Rattle.frame_file.specs.Clip.{IsReadable, header_length, clip_length, pictures_of, pixels_of, pixels_of_8, pixels_of_16, first_bad, clip_of, judged, pixel_in, in_depth, head_of_8, head_of_16, IsKept};
+
+use crate::ClipError;
+use crate::judge::{HEADER_LENGTH, channel_of, judge};
+use argb_pixel::Pixel;
+use project_model::ClipUse;
+use std::alloc::Global;
+use std::marker::Model;
+
+/// The pictures of a clip, premultiplied, in the depth of their file. They are kept as the bytes of the file, which take the
+/// least memory.
+#[derive(Drop)]
+pub struct Clip {
+    width: u32,
+    height: u32,
+    depth: u8,
+    frames: u32,
+    bytes: Vec<u8>,
+}
+
+impl Model for Clip {
+    ghost use Rattle.std.specs.Prelude.{drop};
+    ghost use Rattle.frame_file.specs.Clip.{Pictures, IsKept, pixels_of, header_length};
+
+    ghost Value = { Pictures };
+
+    ghost view = { λ c. record {
+      width = c.width;
+      height = c.height;
+      depth = c.depth;
+      frames = c.frames;
+      pixels = pixels_of c.depth (drop header_length c.bytes.items);
+    } };
+
+    ghost invariant = { λ c. IsKept record {
+      width = c.width;
+      height = c.height;
+      depth = c.depth;
+      frames = c.frames;
+      pixels = pixels_of c.depth (drop header_length c.bytes.items);
+    } c.bytes.items };
+}
+
+/// Reads the pictures of a clip from all bytes of its file. They are refused by the first that holds:
+///
+/// - `Short` with `want` 29: there are fewer than 29 bytes;
+/// - `BadMagic`: the first four are not `AFR1`;
+/// - `BadHeader`: a field is not the declaration's, where the first frame may be any;
+/// - `Short`: there are fewer bytes than are declared, which are 29 and those of the pixels;
+/// - `Trailing`: there are more;
+/// - `BadPixel`: a pixel is not premultiplied.
+///
+/// The numbers of the declaration are those that a project may have.
+pub fn read_clip(alloc: Global, bytes: &[u8], declared: &ClipUse) -> Result<Clip, ClipError>
+    requires { IsReadable declared.now }
+    ensures read { IfOk result (λ clip. clip_of bytes.now declared.now ≡ Ok clip) }
+    ensures declared { IfOk result (λ clip. clip ≡ pictures_of declared.now clip.pixels) }
+    ensures refused { (why : ClipError) → result ≡ Err why → (why ≡ ClipError.Memory → ⊥) → clip_of bytes.now declared.now ≡ Err why }
+{
+    judge(declared, bytes, bytes.len() as u64)?;
+    match bytes.to_vec(alloc) {
+        Ok(kept) => Ok(Clip::of_judged(declared, kept)),
+        Err(_) => Err(ClipError::Memory),
+    }
+}
+
+impl Clip {
+    // The clip of bytes that were judged.
+    pub(crate) fn of_judged(declared: &ClipUse, bytes: Vec<u8>) -> Clip
+        requires readable { IsReadable declared.now }
+        requires long { length bytes.items ≡ clip_length declared.now }
+        requires sound { first_bad (most_of declared.now.depth) (pixels_of declared.now.depth (drop header_length bytes.items)) ≡ None }
+        ensures { result ≡ pictures_of declared.now (pixels_of declared.now.depth (drop header_length bytes.items)) }
+    {
+        Clip {
+            width: declared.width,
+            height: declared.height,
+            depth: declared.depth,
+            frames: declared.frames,
+            bytes,
+        }
+    }
+
+    /// The pixel of a picture at a point, counted from its left top, in the depth `MAX`. The point is in the picture, and
+    /// the clip has the picture, counted from 0.
+    pub fn pixel<const MAX: u32>(&self, picture: u32, x: u32, y: u32) -> Pixel<MAX>
+        requires depth { IsDepth MAX }
+        requires picture { picture < self.now.frames }
+        requires column { x < self.now.width }
+        requires row { y < self.now.height }
+        ensures { result ≡ pixel_in MAX self.now picture x y }
+    {
+        let place = place_in(self.width, self.height, picture, x, y);
+        let pixels = &self.bytes[HEADER_LENGTH..];
+        if self.depth == 8 {
+            in_depth(pixel_of_8(&pixels[place * 4..]))
+        } else {
+            in_depth(pixel_of_16(&pixels[place * 8..]))
+        }
+    }
+}
+
+// A pixel's place among all pixels.
+fn place_in(width: u32, height: u32, picture: u32, x: u32, y: u32) -> usize
+    requires width { width ≤ greatest_side }
+    requires height { height ≤ greatest_side }
+    requires picture { picture < most_frames }
+    requires column { x < width }
+    requires row { y < height }
+    ensures { result ≡ (picture * height + y) * width + x }
+{
+    (picture as usize * height as usize + y as usize) * width as usize + x as usize
+}
+
+// The pixel in another depth, or as it is in its own.
+fn in_depth<const FROM: u32, const TO: u32>(pixel: Pixel<FROM>) -> Pixel<TO>
+    requires from { IsDepth FROM }
+    requires to { IsDepth TO }
+    ensures { result ≡ in_depth FROM TO pixel.entry }
+{
+    if FROM == TO {
+        Pixel::of_channels(pixel.a(), pixel.r(), pixel.g(), pixel.b())
+    } else {
+        pixel.to_depth()
+    }
+}
+
+// The first pixel, of one byte a channel.
+fn pixel_of_8(bytes: &[u8]) -> Pixel<255>
+    requires long { 4 ≤ length bytes.now }
+    requires sound { IsPremultiplied 255 (head_of_8 bytes.now) }
+    ensures { result ≡ head_of_8 bytes.now }
+{
+    Pixel::of_channels(
+        u32::from(bytes[0]),
+        u32::from(bytes[1]),
+        u32::from(bytes[2]),
+        u32::from(bytes[3]),
+    )
+}
+
+// The first pixel, of two bytes a channel.
+fn pixel_of_16(bytes: &[u8]) -> Pixel<32768>
+    requires long { 8 ≤ length bytes.now }
+    requires sound { IsPremultiplied 32768 (head_of_16 bytes.now) }
+    ensures { result ≡ head_of_16 bytes.now }
+{
+    Pixel::of_channels(
+        channel_of(bytes[0], bytes[1]),
+        channel_of(bytes[2], bytes[3]),
+        channel_of(bytes[4], bytes[5]),
+        channel_of(bytes[6], bytes[7]),
+    )
+}
