@@ -1,0 +1,7 @@
+pub mod Callers
+pub mod Holdings
+pub mod Opening
+pub mod Passing
+pub mod Stated
+pub mod Turning
+pub mod TurnsOf

@@ -1,0 +1,11 @@
+pub mod Acts
+pub mod Answers
+pub mod Asked
+pub mod Found
+pub mod Kept
+pub mod Names
+pub mod Passes
+pub mod Room
+pub mod State
+pub mod Suite
+pub mod Turned
