@@ -82,6 +82,20 @@ impl<V: Drop> Ledger<V> {
         self.history.as_slice()
     }
 
+    // Its entries, without the rows.
+    pub(crate) fn into_history(self) -> Vec<Entry>
+        ensures { result.items ≡ self.history }
+    {
+        let Ledger {
+            budget: _,
+            rows: _,
+            live: _,
+            owed: _,
+            history,
+        } = self;
+        history
+    }
+
     // Where the row of a class and key stands.
     pub(crate) fn place_of(&self, class: u8, key: u128) -> Option<usize>
         ensures { result ≡ position (is_kept class key) self.now.rows }

@@ -76,6 +76,14 @@ impl<V: Drop> Table<V> {
         self.ledger.history()
     }
 
+    /// The entries made, by value. The rows go, and their values are dropped.
+    pub fn into_history(self) -> Vec<Entry>
+        ensures { result.items ≡ self.history }
+    {
+        let Table { ledger } = self;
+        ledger.into_history()
+    }
+
     /// What is there of a class and key.
     pub fn look(&self, class: u8, key: u128) -> Seen
         ensures seen { result ≡ seen_of (state_at class key self.now) }
