@@ -21,6 +21,7 @@ pub(crate) struct Multiply;
 impl Mix for Multiply {
     ghost both = { both_of.multiply };
 
+    #[inline(always)]
     fn both(sa: u32, da: u32, s: u32, d: u32) -> u32 {
         s * d
     }
@@ -31,6 +32,7 @@ pub(crate) struct Screen;
 impl Mix for Screen {
     ghost both = { both_of.screen };
 
+    #[inline(always)]
     fn both(sa: u32, da: u32, s: u32, d: u32) -> u32 {
         s * da + d * sa - s * d
     }
@@ -41,6 +43,7 @@ pub(crate) struct Darken;
 impl Mix for Darken {
     ghost both = { both_of.darken };
 
+    #[inline(always)]
     fn both(sa: u32, da: u32, s: u32, d: u32) -> u32 {
         (s * da).min(d * sa)
     }
@@ -51,6 +54,7 @@ pub(crate) struct Lighten;
 impl Mix for Lighten {
     ghost both = { both_of.lighten };
 
+    #[inline(always)]
     fn both(sa: u32, da: u32, s: u32, d: u32) -> u32 {
         (s * da).max(d * sa)
     }
@@ -61,6 +65,7 @@ pub(crate) struct Difference;
 impl Mix for Difference {
     ghost both = { both_of.difference };
 
+    #[inline(always)]
     fn both(sa: u32, da: u32, s: u32, d: u32) -> u32 {
         (s * da).abs_diff(d * sa)
     }
@@ -71,6 +76,7 @@ pub(crate) struct Exclusion;
 impl Mix for Exclusion {
     ghost both = { both_of.exclusion };
 
+    #[inline(always)]
     fn both(sa: u32, da: u32, s: u32, d: u32) -> u32 {
         s * da + d * sa - 2 * s * d
     }
@@ -81,6 +87,7 @@ pub(crate) struct Add;
 impl Mix for Add {
     ghost both = { both_of.add };
 
+    #[inline(always)]
     fn both(sa: u32, da: u32, s: u32, d: u32) -> u32 {
         (sa * da).min(s * da + d * sa)
     }
@@ -91,6 +98,7 @@ pub(crate) struct Subtract;
 impl Mix for Subtract {
     ghost both = { both_of.subtract };
 
+    #[inline(always)]
     fn both(sa: u32, da: u32, s: u32, d: u32) -> u32 {
         (d * sa).saturating_sub(s * da)
     }
@@ -101,6 +109,7 @@ pub(crate) struct LinearBurn;
 impl Mix for LinearBurn {
     ghost both = { both_of.linear_burn };
 
+    #[inline(always)]
     fn both(sa: u32, da: u32, s: u32, d: u32) -> u32 {
         (s * da + d * sa).saturating_sub(sa * da)
     }
@@ -111,6 +120,7 @@ pub(crate) struct HardLight;
 impl Mix for HardLight {
     ghost both = { both_of.hard_light };
 
+    #[inline(always)]
     fn both(sa: u32, da: u32, s: u32, d: u32) -> u32 {
         if 2 * s <= sa {
             2 * s * d
@@ -125,6 +135,7 @@ pub(crate) struct Overlay;
 impl Mix for Overlay {
     ghost both = { both_of.overlay };
 
+    #[inline(always)]
     fn both(sa: u32, da: u32, s: u32, d: u32) -> u32 {
         if 2 * d <= da {
             2 * s * d
@@ -139,6 +150,7 @@ pub(crate) struct LinearLight;
 impl Mix for LinearLight {
     ghost both = { both_of.linear_light };
 
+    #[inline(always)]
     fn both(sa: u32, da: u32, s: u32, d: u32) -> u32 {
         (sa * da).min((d * sa + 2 * s * da).saturating_sub(sa * da))
     }
@@ -149,6 +161,7 @@ pub(crate) struct PinLight;
 impl Mix for PinLight {
     ghost both = { both_of.pin_light };
 
+    #[inline(always)]
     fn both(sa: u32, da: u32, s: u32, d: u32) -> u32 {
         if 2 * s <= sa {
             (d * sa).min(2 * s * da)
@@ -163,6 +176,7 @@ pub(crate) struct HardMix;
 impl Mix for HardMix {
     ghost both = { both_of.hard_mix };
 
+    #[inline(always)]
     fn both(sa: u32, da: u32, s: u32, d: u32) -> u32 {
         if s * da + d * sa >= sa * da {
             sa * da
@@ -177,6 +191,7 @@ pub(crate) struct ColorDodge;
 impl Mix for ColorDodge {
     ghost both = { both_of.color_dodge };
 
+    #[inline(always)]
     fn both(sa: u32, da: u32, s: u32, d: u32) -> u32 {
         if s == sa {
             return if d == 0 { 0 } else { sa * da };
@@ -191,6 +206,7 @@ pub(crate) struct ColorBurn;
 impl Mix for ColorBurn {
     ghost both = { both_of.color_burn };
 
+    #[inline(always)]
     fn both(sa: u32, da: u32, s: u32, d: u32) -> u32 {
         if s == 0 {
             return if d == da { sa * da } else { 0 };

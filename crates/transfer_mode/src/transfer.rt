@@ -13,6 +13,7 @@ use argb_pixel::{Combine, Pixel, combine_each, combine_pixel, combine_row};
 use std::marker::PhantomData;
 
 // One channel, of what the mode makes of both where both cover.
+#[inline(always)]
 fn blend_channel<const MAX: u32>(sa: u32, da: u32, s: u32, d: u32, both: u32) -> u32
     requires depth { IsDepth MAX }
     requires source_alpha { sa ≤ MAX }
@@ -26,6 +27,7 @@ fn blend_channel<const MAX: u32>(sa: u32, da: u32, s: u32, d: u32, both: u32) ->
 }
 
 // One colour, in a mode that mixes both.
+#[inline(always)]
 fn mix_channel<X: Mix, const MAX: u32>(sa: u32, da: u32, s: u32, d: u32) -> u32
     requires depth { IsDepth MAX }
     requires source_alpha { sa ≤ MAX }
@@ -44,6 +46,7 @@ struct Mixed<X>(PhantomData<X>);
 impl<X: Mix, const MAX: u32> Combine<MAX> for Mixed<X> {
     ghost combined = { mixed MAX X.both };
 
+    #[inline(always)]
     fn combine(s: Pixel<MAX>, d: Pixel<MAX>) -> Pixel<MAX>
         requires { IsDepth MAX }
         ensures { result ≡ mixed MAX X.both s.entry d.entry }
@@ -59,6 +62,7 @@ impl<X: Mix, const MAX: u32> Combine<MAX> for Mixed<X> {
 }
 
 // One channel in Normal mode: the source's, and what the source leaves of the destination's.
+#[inline(always)]
 fn over_channel<const MAX: u32>(s: u32, d: u32, left: u32) -> u32
     requires depth { IsDepth MAX }
     requires source { s ≤ MAX }
@@ -75,6 +79,7 @@ struct Over;
 impl<const MAX: u32> Combine<MAX> for Over {
     ghost combined = { mixed MAX normal };
 
+    #[inline(always)]
     fn combine(s: Pixel<MAX>, d: Pixel<MAX>) -> Pixel<MAX>
         requires { IsDepth MAX }
         ensures { result ≡ mixed MAX normal s.entry d.entry }
@@ -96,6 +101,7 @@ struct OneOver;
 impl<const MAX: u32> Combine<MAX> for OneOver {
     ghost combined = { mixed MAX normal };
 
+    #[inline(always)]
     fn combine(s: Pixel<MAX>, d: Pixel<MAX>) -> Pixel<MAX>
         requires { IsDepth MAX }
         ensures { result ≡ mixed MAX normal s.entry d.entry }
@@ -115,6 +121,7 @@ struct StencilAlpha;
 impl<const MAX: u32> Combine<MAX> for StencilAlpha {
     ghost combined = { λ s d. mul_of MAX d s.a };
 
+    #[inline(always)]
     fn combine(s: Pixel<MAX>, d: Pixel<MAX>) -> Pixel<MAX>
         requires { IsDepth MAX }
         ensures { result ≡ mul_of MAX d.entry s.entry.a }
@@ -128,6 +135,7 @@ struct SilhouetteAlpha;
 impl<const MAX: u32> Combine<MAX> for SilhouetteAlpha {
     ghost combined = { λ s d. mul_of MAX d (MAX - s.a) };
 
+    #[inline(always)]
     fn combine(s: Pixel<MAX>, d: Pixel<MAX>) -> Pixel<MAX>
         requires { IsDepth MAX }
         ensures { result ≡ mul_of MAX d.entry (MAX - s.entry.a) }
@@ -141,6 +149,7 @@ struct StencilLuma;
 impl<const MAX: u32> Combine<MAX> for StencilLuma {
     ghost combined = { λ s d. mul_of MAX d (luma_of s) };
 
+    #[inline(always)]
     fn combine(s: Pixel<MAX>, d: Pixel<MAX>) -> Pixel<MAX>
         requires { IsDepth MAX }
         ensures { result ≡ mul_of MAX d.entry (luma_of s.entry) }
@@ -154,6 +163,7 @@ struct SilhouetteLuma;
 impl<const MAX: u32> Combine<MAX> for SilhouetteLuma {
     ghost combined = { λ s d. mul_of MAX d (MAX - luma_of s) };
 
+    #[inline(always)]
     fn combine(s: Pixel<MAX>, d: Pixel<MAX>) -> Pixel<MAX>
         requires { IsDepth MAX }
         ensures { result ≡ mul_of MAX d.entry (MAX - luma_of s.entry) }
