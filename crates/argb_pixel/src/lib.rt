@@ -6,4 +6,4 @@ pub mod laws;
 mod pixel;
 
 pub use combine::{Combine, combine_each, combine_pixel, combine_row};
-pub use pixel::{Pixel, Transparent};
+pub use pixel::{Pixel, Transparent, share_of_most};

@@ -29,6 +29,33 @@ impl<const MAX: u32> Model for Pixel<MAX> {
     ghost inverse = { λ p. record { a = p.a; r = p.r; g = p.g; b = p.b } };
 }
 
+/// A product of two channels, or a sum of such, divided by `MAX`, to the nearest number: `floor((product + MAX/2) / MAX)`.
+/// It is at most `MAX*MAX`. A quotient by 255 is had from shifts.
+#[inline(always)]
+pub fn share_of_most<const MAX: u32>(product: u32) -> u32
+    requires depth { IsDepth MAX }
+    requires bound { product ≤ MAX * MAX }
+    ensures { result ≡ rounded product MAX }
+{
+    if MAX == 255 {
+        let above = product + 128;
+        (above + above / 256) / 256
+    } else {
+        (product + MAX / 2) / MAX
+    }
+}
+
+// The part of a channel that `m` is of the greatest value, to the nearest number.
+#[inline(always)]
+fn part_of_most<const MAX: u32>(c: u16, m: u32) -> u16
+    requires depth { IsDepth MAX }
+    requires part { m ≤ MAX }
+    requires channel { c ≤ MAX }
+    ensures { result ≡ rounded (c * m) MAX }
+{
+    share_of_most::<MAX>(c as u32 * m) as u16
+}
+
 // The part of a channel that `m` is of `whole`, to the nearest number.
 fn rounded_part(c: u16, m: u32, whole: u32) -> u16
     requires some { 0 < whole }
@@ -142,10 +169,10 @@ impl<const MAX: u32> Pixel<MAX> {
         ensures { result ≡ mul_of MAX self.entry m }
     {
         Pixel {
-            a: rounded_part(self.a, m, MAX),
-            r: rounded_part(self.r, m, MAX),
-            g: rounded_part(self.g, m, MAX),
-            b: rounded_part(self.b, m, MAX),
+            a: part_of_most::<MAX>(self.a, m),
+            r: part_of_most::<MAX>(self.r, m),
+            g: part_of_most::<MAX>(self.g, m),
+            b: part_of_most::<MAX>(self.b, m),
         }
     }
 

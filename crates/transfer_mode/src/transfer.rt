@@ -9,7 +9,7 @@ ghost use Rattle.transfer_mode.specs.Transfer.{blended, mixed, blend_of};
 
 use crate::mix::*;
 use crate::mode::Mode;
-use argb_pixel::{Combine, Pixel, combine_each, combine_pixel, combine_row};
+use argb_pixel::{Combine, Pixel, combine_each, combine_pixel, combine_row, share_of_most};
 use std::marker::PhantomData;
 
 // One channel, of what the mode makes of both where both cover.
@@ -23,7 +23,7 @@ fn blend_channel<const MAX: u32>(sa: u32, da: u32, s: u32, d: u32, both: u32) ->
     requires both { both ≤ sa * da }
     ensures { result ≡ blended MAX sa da s d both }
 {
-    (s * (MAX - da) + d * (MAX - sa) + both + MAX / 2) / MAX
+    share_of_most::<MAX>(s * (MAX - da) + d * (MAX - sa) + both)
 }
 
 // One colour, in a mode that mixes both.
@@ -70,7 +70,7 @@ fn over_channel<const MAX: u32>(s: u32, d: u32, left: u32) -> u32
     requires left { left ≤ MAX }
     ensures { result ≡ s + rounded (d * left) MAX }
 {
-    s + (d * left + MAX / 2) / MAX
+    s + share_of_most::<MAX>(d * left)
 }
 
 /// Normal mode, with one product a channel.
