@@ -269,6 +269,17 @@ middle_within part x y count start end order fits inside =
     let last = (inside (end - 1) (omega arith)).1 (omega arith, omega arith) in
     span_within part (x +ℤ pos start) y (end - start) ((first.2, first.3), first.0, omega (arith, ints, last.1, order))
 
+-- a row of points that is inside as a whole
+pub lent_is : (e part : Rect) (xs : List Argb) (x y : ℤ) (count start end from : ℕ) → length xs ≡ area_of part → start ≡ 0 → end ≡ count → start < end
+    → ((k : ℕ) → k < count → (Has part (x +ℤ pos k) y ↔ ((start ≤ k) × (k < end))))
+    → from ≡ place_of part (x +ℤ pos start) y → between from (from + count) xs ≡ span_of (picture e part xs) x y count
+lent_is e part xs x y count start end from all low high order inside is =
+    let first = (inside start (omega arith)).1 (omega arith, order) in
+    let last = (inside (end - 1) (omega arith)).1 (omega arith, omega arith) in
+    let here : x +ℤ pos start ≡ x = omega (arith, ints, low) in
+    span_is_between e part xs x y from count ((first.2, first.3), omega (arith, ints, here, first.0), omega (arith, ints, last.1, high, order)) all
+    (is ∙ ap (λ u. place_of part u y) here)
+
 -- ---- the rows of a part, by their number from the top
 
 pub row_there : (part : Rect) (k : ℕ) → k < count_between part.top part.bottom → HasRow part (part.top +ℤ pos k)

@@ -85,6 +85,18 @@ impl<const MAX: u32> Pixels<MAX> {
         }
     }
 
+    /// So many pixels from a place on, where they are written out.
+    pub(crate) fn lend(&self, start: usize, count: usize) -> Option<&[Pixel<MAX>]>
+        requires { start + count ≤ length self.now }
+        ensures { IfSome result (λ row. row.now ≡ between start (start + count) self.now) }
+    {
+        if self.written.is_empty() {
+            None
+        } else {
+            Some(&self.written[start..start + count])
+        }
+    }
+
     /// Sets the pixel at a place.
     pub(crate) fn set(&mut self, at: usize, pixel: Pixel<MAX>)
         requires { at < length self.old }

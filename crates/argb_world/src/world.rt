@@ -190,6 +190,21 @@ impl<const MAX: u32> World<MAX> {
         }
     }
 
+    /// The pixels of a row of points, from `(x, y)` to the right, as they are kept: none where the points are not all in
+    /// the part, or the pixels are not written out. `x` is within -8,589,934,592..=8,589,934,592.
+    pub fn lend_span(&self, x: i64, y: i64, count: usize) -> Option<&[Pixel<MAX>]>
+        requires { IsReach x }
+        ensures { IfSome result (λ row. row.now ≡ span_of self.now x y count) }
+    {
+        let (start, end) = self.covered(x, y, count);
+        if start == 0 && end == count && start < end {
+            self.pixels
+                .lend(place_along(&self.part, x, y, start), count)
+        } else {
+            None
+        }
+    }
+
     /// Sets the pixels of a row of points, from `(x, y)` to the right. All are in the part, and all other points stay.
     pub fn set_span(&mut self, x: i32, y: i32, from: &[Pixel<MAX>])
         requires { HasSpan self.old.part x y (length from.now) }

@@ -17,7 +17,7 @@ use Rattle.track_matte.specs.Mattes.{matted}
 use Rattle.track_matte.specs.declared.matte.Matte.{Matte}
 use Rattle.track_matte.specs.declared.matte.Matte.TheVariants as matte
 use Rattle.track_matte.proofs.Unchanged.{none_leaves}
-use Rattle.comp_stack.specs.Stack.{PlacedPlane, PlacedLayer, pixel_at, matte_at}
+use Rattle.comp_stack.specs.Stack.{PlacedPlane, PlacedLayer, pixel_at, matte_at, source_at}
 use Rattle.comp_stack.specs.Spans.{pixel_span, matte_span, source_span}
 
 -- a column of the stack and of a picture at a position
@@ -46,6 +46,19 @@ pub one_source_is : (most : ℕ) (kind : Matte) (q p colour : Argb) (opacity : �
     → scale_of (matted most kind q p) opacity ≡ scale_of colour opacity
 one_source_is most kind q p colour opacity depth none is =
     ap (λ t. scale_of t opacity) (ap (λ (k : Matte). matted most k q p) none ∙ none_leaves most q p depth ∙ is)
+
+-- what a layer brings with no matte and at full opacity
+pub whole_span_is : (most : ℕ) (layer : PlacedLayer) (x y : ℤ) (n : ℕ) → IsDepth most → layer.matte ≡ matte.None → layer.layer.opacity ≡ 10000
+    → pixel_span layer.layer x y n ≡ source_span most layer x y n
+whole_span_is most layer x y n depth none whole = ap (λ f. map f (range_with_len 0 n)) (λ i k. each k i)
+  where
+    each : (k : ℕ) → pixel_at layer.layer (x +ℤ pos k) y ≡ source_at most layer (x +ℤ pos k) y
+    each k =
+        let p = pixel_at layer.layer (x +ℤ pos k) y in
+        sym (one_source_is most layer.matte (matte_at layer.over (x +ℤ pos k) y) p p layer.layer.opacity depth none refl ∙ ap (scale_of p) whole ∙ scale_whole p)
+
+pub length_sources : (most : ℕ) (layer : PlacedLayer) (x y : ℤ) (n : ℕ) → length (source_span most layer x y n) ≡ n
+length_sources most layer x y n = length-map-range_with_len (λ k. source_at most layer (x +ℤ pos k) y) 0 n
 
 pub scaled_whole : (opacity : ℕ) (row : List Argb) → opacity ≡ 10000 → row ≡ map (λ p. scale_of p opacity) row
 scaled_whole opacity [] whole = refl

@@ -9,7 +9,7 @@ ghost use Rattle.comp_stack.specs.Stack.{pixel_at, step, stack_over};
 ghost use Rattle.comp_stack.specs.Spans.{IsNear, IsColumn};
 
 use crate::layer::{Placed, Shown};
-use crate::source::{one_source, read_source, seen};
+use crate::source::{one_source, read_source, seen, whole_source};
 use argb_pixel::{Pixel, Transparent};
 use argb_world::World;
 use transfer_mode::{Mode, blend_colour, blend_row};
@@ -74,8 +74,13 @@ fn lay_source<const MAX: u32>(
     ensures { (k : ℕ) → k < length into.old → slice_index_or into.new k clear
         ≡ step MAX (layer_of layer.now) (x +ℤ pos k) y (slice_index_or into.old k clear) }
 {
-    read_source(layer, x, y, matte, source);
-    blend_row(layer.mode, source, into);
+    match whole_source(layer, x, y, into.len()) {
+        Some(row) => blend_row(layer.mode, row, into),
+        None => {
+            read_source(layer, x, y, matte, source);
+            blend_row(layer.mode, source, into);
+        }
+    }
 }
 
 // A layer over each pixel of a row of points. `source` and `matte` are room for as many pixels.

@@ -129,6 +129,30 @@ pub(crate) fn read_source<const MAX: u32>(
     scale_row(layer.layer.opacity, source);
 }
 
+/// What a layer brings to a row of points, where that is what its picture keeps: it has no matte, and full opacity.
+pub(crate) fn whole_source<const MAX: u32>(
+    layer: &Placed<MAX>,
+    x: i64,
+    y: i64,
+    count: usize,
+) -> Option<&[Pixel<MAX>]>
+    requires depth { IsDepth MAX }
+    requires layer { IsPlaced layer.now }
+    requires column { IsNear x }
+    requires row { IsNear y }
+    ensures { IfSome result (λ row. row.now ≡ source_span MAX (layer_of layer.now) x y count) }
+{
+    let shown = &layer.layer;
+    match layer.matte {
+        Matte::None if shown.opacity == 10000 => {
+            shown
+                .world
+                .lend_span(within(x, shown.x), within(y, shown.y), count)
+        }
+        _ => None,
+    }
+}
+
 /// The one pixel that a layer brings to each of so many points, where it is kept as one and has no matte.
 pub(crate) fn one_source<const MAX: u32>(
     layer: &Placed<MAX>,
