@@ -1,16 +1,14 @@
 -- The open receipts of a pass.
-use Rattle.std.proofs.Common.{◌≡◌, ℕ, zero, suc, ◌+◌, ◌≤◌, ◌<◌, Bool, true, false, cond, ◌&&◌, ◌||◌, List, [], ◌∷◌, ◌++◌, length, refl, sym, ap, ap₂, ◌∙◌, subst, nat_eq, eqb-true, eq-eqb, arith, append_assoc, length-append}
-use Rattle.std.specs.Prelude.{Some, None, count_by, slice_get}
-use Rattle.std.specs.List.{AllByRecursion, list_any}
+use Rattle.std.proofs.Common.{◌≡◌, ℕ, zero, suc, ◌+◌, ◌≤◌, ◌<◌, Bool, true, false, cond, ◌&&◌, ◌||◌, List, [], ◌∷◌, ◌++◌, length, refl, ap, ap₂, nat_eq, eqb-true, eq-eqb, arith}
+use Rattle.std.specs.Prelude.{Some, count_by, slice_get}
+use Rattle.std.specs.List.{AllByRecursion}
 use Rattle.std.proofs.lemmas.Bool.{and_parts}
 use Rattle.std.proofs.lemmas.Option.{slice_get_within}
 use Rattle.std.proofs.lemmas.List.Sums.{sum_by-cons, sum_by_push}
-use Rattle.cache_core.specs.Holds.{without_first}
 use Rattle.cache_core.specs.declared.entry.Entry.{Entry}
 use Rattle.cache_core.specs.declared.entry.Act.{Act}
-use Rattle.cache_core.specs.declared.entry.Act.TheVariants.{Hit, Finish, Give}
 use Rattle.cache_core.proofs.Serials.{all-push, all-without}
-use Rattle.turn_lock.specs.Entries.{holds_taken, holds_given, takes_hold, is_about, IsClear, computes}
+use Rattle.turn_lock.specs.Entries.{holds_taken, holds_given, takes_hold, IsClear, computes}
 use Rattle.turn_lock.proofs.Lists.{bit}
 use Rattle.compute_cache.specs.declared.hold.Hold.{Hold}
 use Rattle.compute_cache.specs.State.{entry_of}

@@ -1,19 +1,18 @@
 -- A pass at its start, after a join and at the close.
-use Rattle.std.proofs.Common.{◌≡◌, ℕ, ◌+◌, ◌≤◌, Bool, true, false, cond, ◌||◌, List, [], ◌∷◌, ◌++◌, length, refl, sym, ap, ap₂, ◌∙◌, subst, subst₂, nat_le, arith, append-nil}
-use Rattle.std.specs.Prelude.{Option, Some, None, IsSome, is_none}
+use Rattle.std.proofs.Common.{◌≡◌, ℕ, Bool, true, false, cond, ◌||◌, List, [], length, refl, sym, ap, ◌∙◌, subst, subst₂, nat_le, arith}
+use Rattle.std.specs.Prelude.{Option, Some, None, IsSome}
 use Rattle.std.specs.List.{AllByRecursion}
-use Rattle.cache_core.specs.Core.{Core, empty_core, is_settled}
+use Rattle.cache_core.specs.Core.{Core, empty_core}
 use Rattle.cache_core.specs.Rows.{live_bytes, is_idle}
 use Rattle.cache_core.specs.History.{IsLegal, replay_of}
 use Rattle.cache_core.specs.Laws.{Leaves}
 use Rattle.cache_laws.proofs.Clear.{clear_passes_leave_idle_rows}
 use Rattle.cache_core.specs.declared.entry.Entry.{Entry}
-use Rattle.turn_lock.specs.Entries.{Begins, entries_of, longer, IsClear, computes, holds_taken, holds_given}
-use Rattle.turn_lock.specs.Lock.{Lock, Pass, joining}
-use Rattle.compute_cache.specs.declared.hold.Hold.{Hold}
+use Rattle.turn_lock.specs.Entries.{Begins, entries_of, longer, IsClear}
+use Rattle.turn_lock.specs.Lock.{Pass, joining}
 use Rattle.compute_cache.specs.State.{Plain}
-use Rattle.compute_cache.specs.Kept.{pass_of, IsKeptPass}
-use Rattle.compute_cache.specs.Passes.{AreOpen, IsOfLock, turns_of}
+use Rattle.compute_cache.specs.Kept.{IsKeptPass}
+use Rattle.compute_cache.specs.Passes.{AreOpen, turns_of}
 use Rattle.compute_cache.specs.Room.{Room}
 use Rattle.compute_cache.specs.Turned.{IsSettledHistory}
 use Rattle.compute_cache.proofs.TurnsOf.{turns-quiet, turns_grow, none_computes}

@@ -1,13 +1,13 @@
 -- A pass after its calls.
-use Rattle.std.proofs.Common.{◌≡◌, ℕ, ◌+◌, ◌≤◌, Bool, true, false, ◌&&◌, List, [], ◌∷◌, ◌++◌, length, refl, sym, ap, ap₂, ◌∙◌, subst, nat_eq, arith, eq-eqb, append_assoc, append-nil, length-append}
-use Rattle.std.specs.Prelude.{Option, Some, None}
+use Rattle.std.proofs.Common.{◌≡◌, ℕ, ◌+◌, ◌≤◌, Bool, true, false, ◌&&◌, List, [], ◌∷◌, ◌++◌, length, refl, sym, ap, ◌∙◌, subst, nat_eq, arith, eq-eqb, append_assoc, append-nil, length-append}
+use Rattle.std.specs.Prelude.{Option, Some}
 use Rattle.std.specs.List.{AllByRecursion}
 use Rattle.cache_core.specs.declared.entry.Entry.{Entry}
 use Rattle.cache_core.specs.declared.entry.Act.{Act}
 use Rattle.cache_core.specs.declared.entry.Act.TheVariants.{Start as IsStart, Hit as IsHit, Pending as IsPending, NotCached as IsNotCached, Finish, Abandon, Give}
 use Rattle.cache_table.specs.Cache.{IsEvictBy}
-use Rattle.turn_lock.specs.Entries.{Begins, AreOf, entries_of, computes, holds_taken, holds_given, takes_hold}
-use Rattle.turn_lock.specs.Lock.{Lock, Pass, putting}
+use Rattle.turn_lock.specs.Entries.{entries_of, computes, holds_taken, holds_given, takes_hold}
+use Rattle.turn_lock.specs.Lock.{Lock, Pass}
 use Rattle.turn_lock.proofs.Histories.{entries-more_own, begins-refl}
 use Rattle.turn_lock.proofs.Lists.{bit}
 use Rattle.cache_laws.proofs.Adding.{start_adds, hit_adds, finish_adds, abandon_adds, give_adds, pending_adds, not_cached_adds, evicts_after, evicts_of}
@@ -20,7 +20,7 @@ use Rattle.compute_cache.specs.Acts.{act_of}
 use Rattle.compute_cache.specs.Asked.{Asked}
 use Rattle.compute_cache.specs.Found.{holds_by, turns_by, FoundAt, Refused}
 use Rattle.compute_cache.specs.Kept.{pass_of, IsKeptPass}
-use Rattle.compute_cache.specs.Passes.{Started, started_at, held_at, has_turn, is_held, without_hold, without_turn, turns, turns_of, turns_after, IsPlaced, AreOpen, IsOfLock, Called, CalledAndEvicted}
+use Rattle.compute_cache.specs.Passes.{Started, held_at, has_turn, is_held, without_hold, without_turn, turns, turns_of, turns_after, IsPlaced, AreOpen, IsOfLock, Called, CalledAndEvicted}
 use Rattle.compute_cache.specs.Room.{Room}
 use Rattle.compute_cache.specs.Suite.{ReceiptsAreLive}
 use Rattle.cache_laws.proofs.Holding.{open_receipt_is_live}

@@ -1,6 +1,6 @@
 -- What a call does to the state of a cache.
-use Rattle.std.proofs.Common.{◌≡◌, ℕ, true, [], ◌∷◌, ◌++◌, refl, sym, ap, ap₂, ◌∙◌, subst, nat_eq, eqb-true, ◌&&◌, inl, inr}
-use Rattle.std.specs.Prelude.{Option, Some, None, Result, Ok, Err, OnErr}
+use Rattle.std.proofs.Common.{◌≡◌, ℕ, true, sym, ap, ap₂, ◌∙◌, subst, eqb-true, inl, inr}
+use Rattle.std.specs.Prelude.{Option, Some, None, Result, Err, OnErr}
 use Rattle.std.proofs.lemmas.Bool.{and_parts}
 use Rattle.cache_core.specs.Rows.{is_live}
 use Rattle.cache_core.specs.Core.{is_in, is_settled, step}

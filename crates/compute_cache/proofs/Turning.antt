@@ -1,15 +1,15 @@
 -- A turn of a pass at the lock of a cache.
-use Rattle.std.proofs.Common.{◌≡◌, ℕ, true, false, Bool, List, [], ◌∷◌, ◌++◌, refl, sym, ap, ap₂, ◌∙◌, subst, subst₂, append-nil, append_assoc, nat_eq, eqb-true, ◌&&◌, length}
+use Rattle.std.proofs.Common.{◌≡◌, ℕ, true, false, Bool, List, [], ◌∷◌, ◌++◌, refl, sym, ap, ap₂, ◌∙◌, subst, append-nil, eqb-true, ◌&&◌, length}
 use Rattle.std.specs.Prelude.{Option, Some, None}
-use Rattle.std.specs.List.{AllByRecursion, list_any}
-use Rattle.cache_core.specs.Rows.{state_of, is_running, is_held_by, is_live}
-use Rattle.cache_core.specs.Core.{Core, IsSettled, is_in}
+use Rattle.std.specs.List.{AllByRecursion}
+use Rattle.cache_core.specs.Rows.{is_running, is_held_by, is_live}
+use Rattle.cache_core.specs.Core.{is_in}
 use Rattle.cache_core.specs.History.{replay_of}
 use Rattle.cache_core.specs.Laws.{Leaves}
 use Rattle.cache_core.specs.declared.entry.Entry.{Entry}
 use Rattle.cache_core.specs.declared.row.State.{State}
 use Rattle.cache_core.specs.declared.row.State.TheVariants.{Running, Live}
-use Rattle.cache_table.specs.Cache.{Cache, core_of, state_at, IsEvictBy}
+use Rattle.cache_table.specs.Cache.{core_of, state_at, IsEvictBy}
 use Rattle.turn_lock.specs.Entries.{Begins, AreOf, entries_of, computes}
 use Rattle.turn_lock.specs.Lock.{Lock, Pass, IsOf, taking, putting}
 use Rattle.turn_lock.proofs.Histories.{begins-refl, begins-trans}
@@ -21,7 +21,7 @@ use Rattle.compute_cache.specs.declared.found.Found.{Found}
 use Rattle.compute_cache.specs.Acts.{act_for, act_of, IsMeant, is_pending, is_any_running}
 use Rattle.compute_cache.specs.Asked.{Asked}
 use Rattle.compute_cache.specs.State.{Plain, IsSound, Goes, entry_of}
-use Rattle.compute_cache.specs.Turned.{Turned, Waiting, IsOpen, IsSettledHistory}
+use Rattle.compute_cache.specs.Turned.{Turned, Waiting, IsOpen}
 
 -- evictions of a pass are entries of its own
 pub evicts_own : (pass : ℕ) (evicts : List Entry) → AllByRecursion (IsEvictBy pass) evicts → AreOf pass evicts

@@ -7,7 +7,7 @@ use Rattle.compute_cache.specs.declared.classes.ClassId.{ClassId}
 use Rattle.compute_cache.specs.declared.error.CacheError.{CacheError}
 use Rattle.compute_cache.specs.declared.error.CacheError.TheVariants.{NameTaken, ClassesFull, Memory, NotRegistered, Pending as IsPending, NotCached as IsNotCached}
 use Rattle.compute_cache.specs.declared.found.Call.{Call}
-use Rattle.compute_cache.specs.declared.found.Call.TheVariants.{Begin, Checkout}
+use Rattle.compute_cache.specs.declared.found.Call.TheVariants.{Begin}
 use Rattle.compute_cache.specs.declared.receipt.Begun.{Begun}
 use Rattle.compute_cache.specs.declared.receipt.Begun.TheVariants.{Hit as GotReceipt, Turn as GotTurn}
 use Rattle.compute_cache.specs.State.{Plain, entry_of}

@@ -1,6 +1,5 @@
 -- How a pass of a cache is kept: its pass of the lock, and its open receipts with the room for more.
-use Rattle.std.specs.Prelude.{ℕ, ◌≡◌, ◌≤◌, List, length, Option, Some, None}
-use Rattle.cache_core.specs.declared.entry.Entry.{Entry}
+use Rattle.std.specs.Prelude.{◌≡◌, ◌≤◌, length, Some, None}
 use Rattle.turn_lock.specs.Entries.{entries_of}
 use Rattle.turn_lock.specs.Lock.{Pass}
 use Rattle.compute_cache.specs.State.{Plain}

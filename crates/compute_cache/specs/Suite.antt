@@ -1,5 +1,5 @@
 -- What contracts see of a cache, of receipts and of turns.
-use Rattle.std.specs.Prelude.{ℕ, ◌≡◌, ◌+◌, Bool, true, List, [], ◌∷◌, ◌++◌, length, nat_eq, Option, Some, Result, Ok, Err}
+use Rattle.std.specs.Prelude.{ℕ, ◌≡◌, ◌+◌, true, List, [], ◌∷◌, ◌++◌, length, nat_eq, Some, Result, Ok, Err}
 use Rattle.std.specs.List.{list_any}
 use Rattle.cache_core.specs.Core.{Core}
 use Rattle.cache_core.specs.Rows.{state_of}

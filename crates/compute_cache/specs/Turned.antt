@@ -1,7 +1,7 @@
 -- One turn of a pass at the lock of a cache.
 use Rattle.std.specs.List.{AllByRecursion}
 use Rattle.cache_table.specs.Cache.{IsEvictBy}
-use Rattle.std.specs.Prelude.{ℕ, ◌≡◌, ◌<◌, List, [], ◌∷◌, ◌++◌, Option, Some, None}
+use Rattle.std.specs.Prelude.{ℕ, ◌≡◌, ◌<◌, List, ◌∷◌, ◌++◌, Option, None}
 use Rattle.cache_core.specs.Rows.{state_of}
 use Rattle.cache_core.specs.Core.{Core, IsSettled}
 use Rattle.cache_core.specs.Laws.{Leaves}

@@ -1,12 +1,11 @@
 use Rattle.std.proofs.Common.{◌∷◌, ◌∙◌, ap, subst, refl, sym}
-use Rattle.std.specs.Prelude.{Some}
-use Rattle.cache_core.specs.Rows.{is_held_by, is_live}
+use Rattle.cache_core.specs.Rows.{is_held_by}
 use Rattle.cache_core.specs.Core.{is_in}
 use Rattle.cache_core.specs.declared.entry.Act.TheVariants.{Give}
 use Rattle.cache_table.specs.Cache.{state_at}
 use Rattle.turn_lock.specs.Lock.{Pass}
 use Rattle.turn_lock.specs.Entries.{AreOf}
-use Rattle.compute_cache.specs.State.{entry_of, Goes, GoesAndEvicts}
+use Rattle.compute_cache.specs.State.{entry_of, GoesAndEvicts}
 use Rattle.compute_cache.proofs.Turning.{turned_from, holds_is, evicts_own}
 use Rattle.compute_cache.proofs.turns.give.Goals as goal
 

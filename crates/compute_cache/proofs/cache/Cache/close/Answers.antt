@@ -5,7 +5,7 @@ use Rattle.cache_core.specs.Rows.{is_idle}
 use Rattle.cache_core.specs.Laws.{Leaves}
 use Rattle.cache_core.specs.declared.entry.Entry.{Entry}
 use Rattle.compute_cache.specs.Passes.{CachePass, turns}
-use Rattle.compute_cache.specs.Suite.{Suite, budget_of}
+use Rattle.compute_cache.specs.Suite.{Suite}
 use Rattle.std.specs.Set.{distinct_count}
 use Rattle.cache_laws.specs.Computations.{takes_out, starts_of, same_name, used_names}
 use Rattle.cache_laws.proofs.Counting.{computations_are_counted}

@@ -1,6 +1,5 @@
-use Rattle.std.proofs.Common.{ap, ◌∙◌, sym, refl}
+use Rattle.std.proofs.Common.{ap, ◌∙◌, sym}
 use Rattle.compute_cache.specs.Passes.{CachePass, turns}
-use Rattle.compute_cache.specs.Suite.{Suite}
 use Rattle.compute_cache.proofs.Opening.{joined_kept, joined_turns, clear_pass}
 use Rattle.compute_cache.proofs.cache.Cache.join.Goals as goal
 

@@ -1,6 +1,5 @@
-use Rattle.std.proofs.Common.{ap, ◌∙◌, sym, subst, refl}
+use Rattle.std.proofs.Common.{ap, ◌∙◌, sym, subst}
 use Rattle.turn_lock.specs.Lock.{Pass}
-use Rattle.compute_cache.specs.State.{Plain}
 use Rattle.compute_cache.specs.Turned.{IsSettledHistory}
 use Rattle.compute_cache.specs.Passes.{CachePass}
 use Rattle.compute_cache.proofs.TurnsOf.{turns-quiet}

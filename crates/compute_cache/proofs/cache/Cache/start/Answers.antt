@@ -1,8 +1,7 @@
-use Rattle.std.proofs.Common.{ap, ◌∙◌, sym, subst, refl}
+use Rattle.std.proofs.Common.{ap, sym, subst}
 use Rattle.std.specs.Prelude.{◌≡◌, []}
 use Rattle.turn_lock.specs.Entries.{entries_of}
 use Rattle.turn_lock.specs.Lock.{Pass}
-use Rattle.compute_cache.specs.State.{Plain}
 use Rattle.compute_cache.specs.Turned.{IsSettledHistory}
 use Rattle.compute_cache.proofs.Opening.{fresh_kept, none_settled}
 use Rattle.compute_cache.proofs.cache.Cache.start.Goals as goal

@@ -1,7 +1,5 @@
 use Rattle.std.proofs.Common.{ap, ◌∙◌, sym, subst, true}
-use Rattle.std.specs.Prelude.{◌≡◌, ◌∷◌, []}
-use Rattle.cache_core.specs.declared.entry.Act.TheVariants.{Abandon}
-use Rattle.compute_cache.specs.State.{entry_of}
+use Rattle.std.specs.Prelude.{◌≡◌}
 use Rattle.compute_cache.specs.Passes.{CachePass, IsOfLock, has_turn, turns, without_turn}
 use Rattle.compute_cache.proofs.Passing.{abandon_from, turn_computes}
 use Rattle.compute_cache.proofs.pass.Pass.abandon.Goals as goal

@@ -1,10 +1,9 @@
-use Rattle.std.proofs.Common.{ap, ◌∙◌, sym, subst, subst₂, refl, false, arith}
-use Rattle.std.specs.Prelude.{◌≡◌, ◌++◌, OnErr}
+use Rattle.std.proofs.Common.{ap, ◌∙◌, sym, subst, false, arith}
+use Rattle.std.specs.Prelude.{◌≡◌, ◌++◌}
 use Rattle.compute_cache.specs.Passes.{CachePass, IsOfLock, has_turn, turns}
 use Rattle.compute_cache.specs.Found.{Refused, FoundAt, holds_by}
 use Rattle.compute_cache.specs.Kept.{pass_of}
-use Rattle.compute_cache.specs.Room.{Room}
-use Rattle.compute_cache.proofs.Passing.{Idle, Finds, idle_from, found_from, refused_none, turn_computes}
+use Rattle.compute_cache.proofs.Passing.{idle_from, found_from, refused_none, turn_computes}
 use Rattle.compute_cache.proofs.pass.Pass.ask.Goals as goal
 
 pub ask-asked-requires-clause-other : goal.ask-asked-requires-clause-other

@@ -1,10 +1,10 @@
-use Rattle.std.proofs.Common.{ap, ◌∙◌, sym, subst, true, length}
+use Rattle.std.proofs.Common.{ap, ◌∙◌, sym, subst, true}
 use Rattle.std.specs.Prelude.{◌≡◌}
 use Rattle.cache_core.specs.declared.entry.Act.TheVariants.{Finish}
 use Rattle.compute_cache.specs.State.{entry_of}
 use Rattle.compute_cache.specs.Passes.{CachePass, CalledAndEvicted, IsOfLock, has_turn, turns, without_turn}
 use Rattle.compute_cache.specs.Kept.{pass_of}
-use Rattle.compute_cache.proofs.Passing.{Ends, finish_from, turn_computes}
+use Rattle.compute_cache.proofs.Passing.{finish_from, turn_computes}
 use Rattle.compute_cache.proofs.pass.Pass.finish.Goals as goal
 
 pub finish-serial-requires-clause-turn : goal.finish-serial-requires-clause-turn

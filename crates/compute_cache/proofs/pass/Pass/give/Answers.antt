@@ -4,7 +4,7 @@ use Rattle.cache_core.specs.declared.entry.Act.TheVariants.{Give}
 use Rattle.compute_cache.specs.State.{entry_of}
 use Rattle.compute_cache.specs.Passes.{CachePass, CalledAndEvicted, IsOfLock, is_held, turns}
 use Rattle.compute_cache.specs.Kept.{pass_of}
-use Rattle.compute_cache.proofs.Passing.{Ends, give_from, hold_open}
+use Rattle.compute_cache.proofs.Passing.{give_from, hold_open}
 use Rattle.compute_cache.proofs.pass.Pass.give.Goals as goal
 
 pub give-requires-clause-held : goal.give-requires-clause-held

@@ -1,9 +1,8 @@
 use Rattle.std.proofs.Common.{ap, ◌∙◌, sym, subst, refl, arith}
-use Rattle.std.specs.Prelude.{◌≡◌}
 use Rattle.compute_cache.specs.Passes.{CachePass, IsOfLock, has_turn, turns}
 use Rattle.compute_cache.specs.Found.{Refused}
 use Rattle.compute_cache.specs.Kept.{pass_of}
-use Rattle.compute_cache.proofs.Passing.{Idle, idle_from, turn_computes}
+use Rattle.compute_cache.proofs.Passing.{idle_from, turn_computes}
 use Rattle.compute_cache.proofs.pass.Pass.is_owner.Goals as goal
 
 pub invariant_of-self : goal.invariant_of-self

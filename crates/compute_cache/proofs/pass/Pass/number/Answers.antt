@@ -1,4 +1,4 @@
-use Rattle.std.proofs.Common.{◌≡◌, subst}
+use Rattle.std.proofs.Common.{subst}
 use Rattle.compute_cache.specs.Passes.{CachePass}
 use Rattle.compute_cache.specs.Suite.{ReceiptsAreLive}
 use Rattle.compute_cache.proofs.Passing.{receipts_live}
