@@ -65,6 +65,11 @@ fn paints<const MAX: u32>(
     assert_eq!(rt; row, [none, none, none, none, q]);
     assert_eq!(rt; world.at(-2, -1), q);
     assert_eq!(rt; world.at(1, -1), p);
+    let Some(lent) = world.lend_span(-2, -1, 3) else {
+        return Err("a row is lent")?;
+    };
+    assert_eq!(rt; lent, [q, none, q].as_slice());
+    assert_eq!(rt; world.lend_span(-4, -1, 3).is_none(), true);
     Ok(())
 }
 
