@@ -1,6 +1,11 @@
 pub mod Acting
+pub mod Chained
+pub mod Finding
 pub mod Keeping
+pub mod Links
+pub mod Named
 pub mod Owning
 pub mod Settling
 pub mod Slotted
 pub mod Values
+pub mod Walking

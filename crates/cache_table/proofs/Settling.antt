@@ -112,6 +112,16 @@ module _ {V : Type 0} where
   pub not_absent : {A : Type 0} (test : State → Bool) (class key : ℕ) (rows : List (Kept V)) → position (is_kept class key) rows ≡ None → is_in test (state_of class key (map (λ kept. kept.row) rows)) ≡ true → A
   not_absent test class key rows none passes = absurd (true≢false (sym passes ∙ ap (is_in test) (state_absent class key rows none)))
 
+  -- the place of the row whose state passes a test
+  pub place_where : (test : State → Bool) (class key : ℕ) (rows : List (Kept V)) → is_in test (state_of class key (map (λ kept. kept.row) rows)) ≡ true
+      → (place : ℕ) × (position (is_kept class key) rows ≡ Some place) × (option_map (λ kept. test kept.row.state) (slice_get rows place) ≡ Some true)
+  place_where test class key rows passes = by (position (is_kept class key) rows) refl
+    where
+      by : (o : Option ℕ) → position (is_kept class key) rows ≡ o
+          → (place : ℕ) × (position (is_kept class key) rows ≡ Some place) × (option_map (λ kept. test kept.row.state) (slice_get rows place) ≡ Some true)
+      by None e = not_absent test class key rows e passes
+      by (Some place) e = (place, e, test_there test class key rows place e passes)
+
   -- no row is at a place where there is no state
   pub absent_from : (class key : ℕ) (rows : List (Kept V)) → state_of class key (map (λ kept. kept.row) rows) ≡ None → position (is_kept class key) rows ≡ None
   absent_from class key rows none = by (position (is_kept class key) rows) refl

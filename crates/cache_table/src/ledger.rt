@@ -1,11 +1,11 @@
-ghost use Rattle.std.specs.Prelude.{◌≡◌, ◌<◌, ◌≤◌, ◌+◌, [], ◌++◌, ◌∷◌, OnOk, OnErr, IfOk, OnSome, IfSome, IfNone, length, position, option_map, slice_get, remove, Some, None, true, false, ℕ, IsTrue, option_and_then, vec_len, vec_capacity};
+ghost use Rattle.std.specs.Prelude.{◌≡◌, ◌<◌, ◌≤◌, ◌+◌, [], ◌++◌, ◌∷◌, OnOk, OnErr, IfOk, length, position, option_map, slice_get, remove, Some, None, true, false, ℕ, option_and_then, vec_len, vec_capacity};
 ghost use Rattle.std.specs.Arc.{arc_value};
-ghost use Rattle.cache_core.specs.Rows.{held_by, released_by, is_running, is_live, is_held_by, row_in, state_of, is_named, live_bytes, is_idle};
-ghost use Rattle.cache_core.specs.Core.{IsSettled, may_step, rows_after, is_settled};
+ghost use Rattle.cache_core.specs.Rows.{held_by, released_by, is_running, is_live, is_held_by, state_of};
+ghost use Rattle.cache_core.specs.Core.{IsSettled, may_step, rows_after, is_in};
 ghost use Rattle.cache_core.specs.declared.row.State.TheVariants.{Running as IsRunning, Live as IsLive};
 ghost use Rattle.cache_core.specs.declared.entry.Act.TheVariants.{Start, Hit, Finish, Abandon, Give, Evict};
 ghost use Rattle.cache_core.specs.declared.entry.Entry.{Entry};
-ghost use Rattle.cache_table.specs.Kept.{is_kept, with_state, with_value, is_kept_idle, kept_running, without_kept, changed_at, moved_last, serial_value};
+ghost use Rattle.cache_table.specs.Kept.{is_kept, with_state, with_value, kept_running, without_kept, changed_at, moved_last, serial_value};
 ghost use Rattle.cache_table.specs.Cache.{core_of, IsKept, IsSame, Adds, IsEvictBy, is_any_live};
 ghost use Rattle.cache_table.specs.Ledger.{HasRoom};
 
@@ -96,40 +96,25 @@ impl<V: Drop> Ledger<V> {
         history
     }
 
-    // Where the row of a class and key stands.
-    pub(crate) fn place_of(&self, class: u8, key: u128) -> Option<usize>
-        ensures { result ≡ position (is_kept class key) self.now.rows }
+    // What is seen of a class and key.
+    pub(crate) fn seen(&self, class: u8, key: u128) -> Seen
+        ensures { result ≡ seen_of (state_of class key (core_of self.now).rows) }
     {
-        self.rows.place_of(class, key)
-    }
-
-    // What is seen of the row at a place.
-    pub(crate) fn seen(&self, place: usize) -> Seen
-        requires { place < length self.now.rows }
-        ensures { option_map (λ kept. seen_of (Some kept.row.state)) (slice_get self.now.rows place) ≡ Some result }
-    {
-        self.rows.phase(place).seen()
-    }
-
-    // Whether the pass holds the row at a place.
-    #[cfg(test)]
-    pub(crate) fn is_held(&self, place: usize, pass: u32) -> bool
-        requires { place < length self.now.rows }
-        ensures { option_map (λ kept. is_held_by pass kept.row.state) (slice_get self.now.rows place) ≡ Some result }
-    {
-        self.rows.phase(place).is_held_by(pass)
-    }
-
-    // Where the row stands that has to go, if the core is not settled.
-    pub(crate) fn next_out(&self) -> Option<usize>
-        ensures settled { IfNone result (IsSettled (core_of self.now)) }
-        ensures over { OnSome result (is_settled (core_of self.now).budget (core_of self.now).rows ≡ false) }
-        ensures first { IfSome result (λ place. position is_kept_idle self.now.rows ≡ Some place) }
-    {
-        if self.live <= u128::from(self.budget) {
-            return None;
+        match self.rows.phase_of(class, key) {
+            Some(phase) => phase.seen(),
+            None => Seen::No,
         }
-        self.rows.first_idle()
+    }
+
+    // Whether the pass holds the row of a class and key.
+    #[cfg(test)]
+    pub(crate) fn is_held(&self, class: u8, key: u128, pass: u32) -> bool
+        ensures { result ≡ is_in (is_held_by pass) (state_of class key (core_of self.now).rows) }
+    {
+        match self.rows.phase_of(class, key) {
+            Some(phase) => phase.is_held_by(pass),
+            None => false,
+        }
     }
 
     // A Running row more, the last.
@@ -160,27 +145,18 @@ impl<V: Drop> Ledger<V> {
         Ok(())
     }
 
-    // A Hit of the pass on the Live row of the class and key, which stands at the place.
-    pub(crate) fn take(
-        &mut self,
-        pass: u32,
-        class: u8,
-        key: u128,
-        place: usize,
-    ) -> Result<(u64, Arc<V>), Memory>
+    // A Hit of the pass on the Live row of the class and key.
+    pub(crate) fn take(&mut self, pass: u32, class: u8, key: u128) -> Result<(u64, Arc<V>), Memory>
         requires settled { IsSettled (core_of self.old) }
-        requires at { position (is_kept class key) self.old.rows ≡ Some place }
-        requires live { option_map (λ kept. is_any_live kept.row.state) (slice_get self.old.rows place) ≡ Some true }
+        requires live { (place : ℕ) × (position (is_kept class key) self.old.rows ≡ Some place) × (option_map (λ kept. is_any_live kept.row.state) (slice_get self.old.rows place) ≡ Some true) }
         ensures adds { IfOk result (λ taken. Adds self.old self.new (record { pass = pass; class = class; key = key; act = Hit taken.0 })) }
         ensures kept { IsKept self.new }
-        ensures rows { OnOk result (self.new.rows ≡ moved_last place (changed_at (with_state (held_by pass)) place self.old.rows)) }
-        ensures value { IfOk result (λ taken. option_and_then (λ kept. serial_value kept.row.state kept.value) (slice_get self.old.rows place) ≡ Some (taken.0, arc_value taken.1)) }
+        ensures rows { (place : ℕ) → position (is_kept class key) self.old.rows ≡ Some place → OnOk result (self.new.rows ≡ moved_last place (changed_at (with_state (held_by pass)) place self.old.rows)) }
+        ensures value { (place : ℕ) → position (is_kept class key) self.old.rows ≡ Some place → IfOk result (λ taken. option_and_then (λ kept. serial_value kept.row.state kept.value) (slice_get self.old.rows place) ≡ Some (taken.0, arc_value taken.1)) }
         ensures err { OnErr result (IsSame self.old self.new) }
     {
-        let (serial, value) = self.rows.phase(place).shared()?;
         reserve(&mut self.history, self.owed, 2)?;
-        self.rows.hold(place, pass)?;
-        self.rows.move_last(place);
+        let (serial, value) = self.rows.take(class, key, pass)?;
         self.history.push_reserved(Entry {
             pass,
             class,
@@ -205,27 +181,24 @@ impl<V: Drop> Ledger<V> {
         Ok(())
     }
 
-    // A Finish of the pass, which computed the row at the place.
+    // A Finish of the pass, which computed the row of the class and key.
     pub(crate) fn finish(
         &mut self,
         pass: u32,
         class: u8,
         key: u128,
-        place: usize,
         size: u32,
         value: Arc<V>,
     ) -> u64
         requires settled { IsSettled (core_of self.old) }
-        requires at { position (is_kept class key) self.old.rows ≡ Some place }
-        requires running { option_map (λ kept. is_running pass kept.row.state) (slice_get self.old.rows place) ≡ Some true }
+        requires running { (place : ℕ) × (position (is_kept class key) self.old.rows ≡ Some place) × (option_map (λ kept. is_running pass kept.row.state) (slice_get self.old.rows place) ≡ Some true) }
         ensures serial { result ≡ length self.old.history }
         ensures adds { Adds self.old self.new (record { pass = pass; class = class; key = key; act = Finish result size }) }
         ensures kept { IsKept self.new }
-        ensures rows { self.new.rows ≡ moved_last place (changed_at (with_value (IsLive result size (pass ∷ [])) (arc_value value)) place self.old.rows) }
+        ensures rows { (place : ℕ) → position (is_kept class key) self.old.rows ≡ Some place → self.new.rows ≡ moved_last place (changed_at (with_value (IsLive result size (pass ∷ [])) (arc_value value)) place self.old.rows) }
     {
         let serial = self.history.as_slice().len() as u64;
-        self.rows.finish(place, pass, serial, size, value);
-        self.rows.move_last(place);
+        self.rows.finish(class, key, pass, serial, size, value);
         self.history.push_reserved(Entry {
             pass,
             class,
@@ -237,16 +210,15 @@ impl<V: Drop> Ledger<V> {
         serial
     }
 
-    // An Abandon of the pass, which computed the row at the place.
-    pub(crate) fn abandon(&mut self, pass: u32, class: u8, key: u128, place: usize)
+    // An Abandon of the pass, which computed the row of the class and key.
+    pub(crate) fn abandon(&mut self, pass: u32, class: u8, key: u128)
         requires settled { IsSettled (core_of self.old) }
-        requires at { position (is_kept class key) self.old.rows ≡ Some place }
-        requires running { option_map (λ kept. is_running pass kept.row.state) (slice_get self.old.rows place) ≡ Some true }
+        requires running { (place : ℕ) × (position (is_kept class key) self.old.rows ≡ Some place) × (option_map (λ kept. is_running pass kept.row.state) (slice_get self.old.rows place) ≡ Some true) }
         ensures adds { Adds self.old self.new (record { pass = pass; class = class; key = key; act = Abandon }) }
         ensures kept { IsKept self.new }
-        ensures rows { self.new.rows ≡ remove self.old.rows place }
+        ensures rows { (place : ℕ) → position (is_kept class key) self.old.rows ≡ Some place → self.new.rows ≡ remove self.old.rows place }
     {
-        self.rows.take_out(place);
+        self.rows.take_out(class, key);
         self.history.push_reserved(Entry {
             pass,
             class,
@@ -256,18 +228,15 @@ impl<V: Drop> Ledger<V> {
         self.owed -= 3;
     }
 
-    // A Give of the pass, which holds the row at the place.
-    pub(crate) fn give(&mut self, pass: u32, class: u8, key: u128, place: usize)
+    // A Give of the pass, which holds the row of the class and key.
+    pub(crate) fn give(&mut self, pass: u32, class: u8, key: u128)
         requires settled { IsSettled (core_of self.old) }
-        requires at { position (is_kept class key) self.old.rows ≡ Some place }
-        requires held { option_map (λ kept. is_held_by pass kept.row.state) (slice_get self.old.rows place) ≡ Some true }
-        ensures adds { (serial : ℕ) × (option_map (λ kept. is_live serial kept.row.state) (slice_get self.old.rows place) ≡ Some true) × Adds self.old self.new (record { pass = pass; class = class; key = key; act = Give serial }) }
+        requires held { (place : ℕ) × (position (is_kept class key) self.old.rows ≡ Some place) × (option_map (λ kept. is_held_by pass kept.row.state) (slice_get self.old.rows place) ≡ Some true) }
+        ensures adds { (serial : ℕ) × (is_in (is_live serial) (state_of class key (core_of self.old).rows) ≡ true) × Adds self.old self.new (record { pass = pass; class = class; key = key; act = Give serial }) }
         ensures kept { IsKept self.new }
-        ensures rows { self.new.rows ≡ moved_last place (changed_at (with_state (released_by pass)) place self.old.rows) }
+        ensures rows { (place : ℕ) → position (is_kept class key) self.old.rows ≡ Some place → self.new.rows ≡ moved_last place (changed_at (with_state (released_by pass)) place self.old.rows) }
     {
-        let serial = self.rows.phase(place).serial();
-        self.rows.release(place, pass);
-        self.rows.move_last(place);
+        let serial = self.rows.give(class, key, pass);
         self.history.push_reserved(Entry {
             pass,
             class,
@@ -277,26 +246,32 @@ impl<V: Drop> Ledger<V> {
         self.owed -= 1;
     }
 
-    // An Evict of the first idle row, which stands at the place.
-    pub(crate) fn evict(&mut self, pass: u32, place: usize)
-        requires over { is_settled (core_of self.old).budget (core_of self.old).rows ≡ false }
-        requires first { position is_kept_idle self.old.rows ≡ Some place }
-        ensures adds { (entry : Entry) × IsEvictBy pass entry × Adds self.old self.new entry × (self.new.rows ≡ without_kept entry.class entry.key self.old.rows) }
+    // An Evict of the first idle row, where the core is not settled. Answers whether there was one.
+    pub(crate) fn evict(&mut self, pass: u32) -> bool
+        ensures settled { result ≡ false → IsSettled (core_of self.new) }
+        ensures same { result ≡ false → self.new ≡ self.old }
+        ensures adds { result ≡ true → (entry : Entry) × IsEvictBy pass entry × Adds self.old self.new entry × (self.new.rows ≡ without_kept entry.class entry.key self.old.rows) }
         ensures kept { IsKept self.new }
-        ensures rows { self.new.rows ≡ remove self.old.rows place }
+        ensures rows { result ≡ true → (place : ℕ) × (place < length self.old.rows) × (self.new.rows ≡ remove self.old.rows place) }
     {
-        let name = self.rows.name(place);
-        let phase = self.rows.phase(place);
-        let serial = phase.serial();
-        let size = phase.size();
-        self.rows.take_out(place);
-        self.history.push_reserved(Entry {
-            pass,
-            class: name.class,
-            key: name.key,
-            act: Act::Evict { serial },
-        });
-        self.live -= u128::from(size);
-        self.owed -= 1;
+        if self.live <= u128::from(self.budget) {
+            return false;
+        }
+        match self.rows.take_out_idle() {
+            Some(gone) => {
+                self.history.push_reserved(Entry {
+                    pass,
+                    class: gone.name.class,
+                    key: gone.name.key,
+                    act: Act::Evict {
+                        serial: gone.serial,
+                    },
+                });
+                self.live -= u128::from(gone.size);
+                self.owed -= 1;
+                true
+            }
+            None => false,
+        }
     }
 }

@@ -46,9 +46,7 @@ fn settle<V: Drop>(ledger: &mut Ledger<V>, pass: u32)
     ensures evicts { (evicts : List Entry) × AllByRecursion (IsEvictBy pass) evicts × (ledger.new.history ≡ ledger.old.history ++ evicts) × (ledger.new.rows ≡ rows_left evicts ledger.old.rows) }
     ensures values { HasNoNewValue ledger.old ledger.new }
 {
-    while let Some(place) = ledger.next_out() {
-        ledger.evict(pass, place);
-    }
+    'evicting: while ledger.evict(pass) {}
 }
 
 impl<V: Drop> Table<V> {
@@ -90,10 +88,7 @@ impl<V: Drop> Table<V> {
         ensures kept { IsKept self.now }
         ensures settled { IsSettled (core_of self.now) }
     {
-        match self.ledger.place_of(class, key) {
-            Some(place) => self.ledger.seen(place),
-            None => Seen::No,
-        }
+        self.ledger.seen(class, key)
     }
 
     /// A pass begins to compute the value of a class and key of which there is no row. Takes the room for all that
@@ -129,10 +124,7 @@ impl<V: Drop> Table<V> {
         ensures settled { IsSettled (core_of self.new) }
         ensures err { OnErr result (IsSame self.old self.new) }
     {
-        match self.ledger.place_of(class, key) {
-            Some(place) => self.ledger.take(pass, class, key, place),
-            None => unreachable!(),
-        }
+        self.ledger.take(pass, class, key)
     }
 
     /// Notes an entry that changes no row.
@@ -160,14 +152,9 @@ impl<V: Drop> Table<V> {
         ensures settled { IsSettled (core_of self.new) }
         ensures values { HasOneNewValue self.old self.new class key result (arc_value value) }
     {
-        match self.ledger.place_of(class, key) {
-            Some(place) => {
-                let serial = self.ledger.finish(pass, class, key, place, size, value);
-                settle(&mut self.ledger, pass);
-                serial
-            }
-            None => unreachable!(),
-        }
+        let serial = self.ledger.finish(pass, class, key, size, value);
+        settle(&mut self.ledger, pass);
+        serial
     }
 
     /// The pass gives up its computation, and its row goes.
@@ -179,10 +166,7 @@ impl<V: Drop> Table<V> {
         ensures settled { IsSettled (core_of self.new) }
         ensures values { HasNoNewValue self.old self.new }
     {
-        match self.ledger.place_of(class, key) {
-            Some(place) => self.ledger.abandon(pass, class, key, place),
-            None => unreachable!(),
-        }
+        self.ledger.abandon(pass, class, key);
     }
 
     /// The pass gives a value back that it holds, and then the first idle rows go until the core is settled. The
@@ -195,12 +179,7 @@ impl<V: Drop> Table<V> {
         ensures settled { IsSettled (core_of self.new) }
         ensures values { HasNoNewValue self.old self.new }
     {
-        match self.ledger.place_of(class, key) {
-            Some(place) => {
-                self.ledger.give(pass, class, key, place);
-                settle(&mut self.ledger, pass);
-            }
-            None => unreachable!(),
-        }
+        self.ledger.give(pass, class, key);
+        settle(&mut self.ledger, pass);
     }
 }

@@ -76,10 +76,7 @@ fn hit(
 fn is_held(table: &Table<u32>, pass: u32, key: u128) -> bool
     ensures { result ≡ is_in (is_held_by pass) (state_at 0 key table.now) }
 {
-    match table.ledger.place_of(0, key) {
-        Some(place) => table.ledger.is_held(place, pass),
-        None => false,
-    }
+    table.ledger.is_held(0, key, pass)
 }
 
 // Gives back, where the pass holds the value.
@@ -177,10 +174,14 @@ fn shown(core: &Core, key: u128) -> Seen {
     Seen::No
 }
 
-// One call, chosen by a number.
-fn call(alloc: Global, table: &mut Table<u32>, turn: u32) -> Result<(), Memory> {
-    let pass = turn.wrapping_mul(7) / 3 % 3;
-    let key = u128::from(turn.wrapping_mul(5) / 2 % 7);
+// One call of a pass on a key, chosen by a number.
+fn call(
+    alloc: Global,
+    table: &mut Table<u32>,
+    turn: u32,
+    pass: u32,
+    key: u128,
+) -> Result<(), Memory> {
     match table.look(0, key) {
         Seen::No if turn % 13 == 0 => {
             miss(alloc, table, pass, key)?;
@@ -210,7 +211,9 @@ fn calls_agree_with_the_core(rt: HostRuntime) -> Result<(), Fail> {
     let mut seen = 0;
     let mut evicts: u32 = 0;
     for turn in 0..400u32 {
-        call(rt.alloc(), &mut table, turn)?;
+        let pass = turn.wrapping_mul(7) / 3 % 3;
+        let key = u128::from(turn.wrapping_mul(5) / 2 % 7);
+        call(rt.alloc(), &mut table, turn, pass, key)?;
         for made in table.history().get(seen..).ok_or("fewer entries")? {
             core.apply(rt.alloc(), made)?;
             if matches!(made.act, Act::Evict { .. }) {
@@ -225,6 +228,170 @@ fn calls_agree_with_the_core(rt: HostRuntime) -> Result<(), Fail> {
                 shown(&core, key),
                 "of {key} after {turn}"
             );
+        }
+    }
+    assert!(rt; evicts > 20);
+    Ok(())
+}
+
+// A row of the plain list.
+#[derive(Drop)]
+struct Old {
+    key: u128,
+    owner: Option<u32>,
+    serial: u64,
+    size: u32,
+    holders: Vec<u32>,
+}
+
+// The rows in a plain list, the least recently touched first: a touched row is taken out and put last.
+#[derive(Drop)]
+struct Plain {
+    rows: Vec<Old>,
+    history: Vec<Entry>,
+}
+
+// The row of a key, out of the list.
+fn pull(rows: &mut Vec<Old>, key: u128) -> Option<Old> {
+    let place = rows.iter().position(|row| row.key == key)?;
+    if place < rows.len() {
+        Some(rows.remove(place))
+    } else {
+        None
+    }
+}
+
+// One hold of the pass less, if there is one.
+fn let_go(holders: &mut Vec<u32>, pass: u32) -> bool {
+    match holders.iter().position(|holder| *holder == pass) {
+        Some(place) if place < holders.len() => {
+            let _pass = holders.remove(place);
+            true
+        }
+        _ => false,
+    }
+}
+
+fn total(rows: &[Old]) -> u64 {
+    let mut total: u64 = 0;
+    for row in rows {
+        total = total.saturating_add(u64::from(row.size));
+    }
+    total
+}
+
+// The key of the first row that no pass holds or computes.
+fn first_free(rows: &[Old]) -> Option<u128> {
+    for row in rows {
+        if row.owner.is_none() && row.holders.is_empty() {
+            return Some(row.key);
+        }
+    }
+    None
+}
+
+// The first rows that no pass holds go until the others fit.
+fn shrink(plain: &mut Plain, budget: u64, pass: u32) -> Result<(), Memory> {
+    for _ in 0..plain.rows.len() {
+        if total(&plain.rows) <= budget {
+            return Ok(());
+        }
+        let Some(key) = first_free(&plain.rows) else {
+            return Ok(());
+        };
+        if let Some(row) = pull(&mut plain.rows, key) {
+            let serial = row.serial;
+            plain.history.push(entry(pass, key, Act::Evict { serial }))?;
+        }
+    }
+    Ok(())
+}
+
+// One call over the plain list, of a row that is there.
+fn plain_touch(plain: &mut Plain, turn: u32, pass: u32, mut row: Old) -> Result<(), Memory> {
+    let key = row.key;
+    let serial = row.serial;
+    match row.owner {
+        Some(owner) if turn % 11 == 0 => {
+            plain.history.push(entry(owner, key, Act::Abandon))?;
+        }
+        Some(owner) => {
+            let size = turn % 5 * 20;
+            let serial = plain.history.len() as u64;
+            plain
+                .history
+                .push(entry(owner, key, Act::Finish { serial, size }))?;
+            row.owner = None;
+            row.serial = serial;
+            row.size = size;
+            row.holders.push(owner)?;
+            plain.rows.push(row)?;
+            shrink(plain, 100, owner)?;
+        }
+        None => {
+            if let_go(&mut row.holders, pass) {
+                plain.history.push(entry(pass, key, Act::Give { serial }))?;
+                plain.rows.push(row)?;
+                shrink(plain, 100, pass)?;
+            } else {
+                plain.history.push(entry(pass, key, Act::Hit { serial }))?;
+                row.holders.push(pass)?;
+                plain.rows.push(row)?;
+            }
+        }
+    }
+    Ok(())
+}
+
+// One call over the plain list.
+fn plain_call(
+    alloc: Global,
+    plain: &mut Plain,
+    turn: u32,
+    pass: u32,
+    key: u128,
+) -> Result<(), Memory> {
+    match pull(&mut plain.rows, key) {
+        Some(row) => plain_touch(plain, turn, pass, row)?,
+        None if turn % 13 == 0 => {
+            plain.history.push(entry(pass, key, Act::NotCached))?;
+        }
+        None => {
+            plain.history.push(entry(pass, key, Act::Start))?;
+            plain.rows.push(Old {
+                key,
+                owner: Some(pass),
+                serial: 0,
+                size: 0,
+                holders: Vec::new(alloc),
+            })?;
+        }
+    }
+    Ok(())
+}
+
+// The same calls over the table and over a plain list make one history.
+#[test]
+fn calls_agree_with_a_plain_list(rt: HostRuntime) -> Result<(), Fail> {
+    let mut table = Table::new(rt.alloc(), 100)?;
+    let mut plain = Plain {
+        rows: Vec::new(rt.alloc()),
+        history: Vec::new(rt.alloc()),
+    };
+    let mut state: u32 = 1;
+    for turn in 0..600u32 {
+        state = state.wrapping_mul(1664525).wrapping_add(1013904223);
+        let pass = state / 256 % 3;
+        let key = u128::from(state / 65536 % 9);
+        call(rt.alloc(), &mut table, turn, pass, key)?;
+        plain_call(rt.alloc(), &mut plain, turn, pass, key)?;
+    }
+    assert_eq!(rt; table.history().len(), plain.history.len());
+    let mut evicts: u32 = 0;
+    for (made, wanted) in table.history().iter().zip(plain.history.iter()) {
+        assert!(rt; *made == *wanted);
+        if matches!(wanted.act, Act::Evict { .. }) {
+            evicts = evicts.saturating_add(1);
         }
     }
     assert!(rt; evicts > 20);

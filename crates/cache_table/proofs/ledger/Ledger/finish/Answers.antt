@@ -1,4 +1,4 @@
-use Rattle.std.proofs.Common.{◌≡◌, true, sym, ◌∙◌, ap, subst, arith, ◌+◌, ◌-◌, ◌≤◌}
+use Rattle.std.proofs.Common.{◌≡◌, true, sym, ap, subst, arith, ◌+◌, ◌-◌, ◌≤◌}
 use Rattle.std.specs.Prelude.{vec_len, vec_capacity, Some, position, option_map, slice_get}
 use Rattle.cache_core.specs.Rows.{is_running}
 use Rattle.cache_core.specs.Core.{is_settled}
@@ -6,7 +6,6 @@ use Rattle.cache_table.specs.Kept.{is_kept}
 use Rattle.cache_table.specs.Cache.{core_of}
 use Rattle.std.specs.Prelude.{length}
 use Rattle.std.specs.Arc.{arc_value}
-use Rattle.cache_table.specs.Kept.{moved_last}
 use Rattle.cache_table.proofs.Keeping.{kept_from, room_in, item_from, need_within, running_is}
 use Rattle.cache_table.proofs.Acting.{after_finish}
 use Rattle.cache_table.proofs.ledger.Ledger.finish.Goals as goal
@@ -15,37 +14,40 @@ pub push_reserved-requires : goal.push_reserved-requires
 push_reserved-requires g c =
     let s = c.self.inside in
     let settled = subst (λ s. is_settled (core_of s).budget (core_of s).rows ≡ true) (sym c.self.view_is) c.requires.settled in
-    let at = subst (λ s. position (is_kept c.args.class c.args.key) s.rows ≡ Some c.args.place) (sym c.self.view_is) c.requires.at in
-    let running = subst (λ s. option_map (λ kept. is_running c.args.pass kept.row.state) (slice_get s.rows c.args.place) ≡ Some true) (sym c.self.view_is) c.requires.running in
-    let item = item_from (λ kept. is_running c.args.pass kept.row.state) s.rows c.args.place true running in
-    let need : 3 ≤ s.owed = omega (arith, need_within s.rows c.args.place item.0 item.1, running_is c.args.pass item.0.row.state item.2, c.self.invariant.owed_is) in
+    let place = c.requires.running.0 in
+    let at = subst (λ s. position (is_kept c.args.class c.args.key) s.rows ≡ Some place) (sym c.self.view_is) c.requires.running.1 in
+    let running = subst (λ s. option_map (λ kept. is_running c.args.pass kept.row.state) (slice_get s.rows place) ≡ Some true) (sym c.self.view_is) c.requires.running.2 in
+    let item = item_from (λ kept. is_running c.args.pass kept.row.state) s.rows place true running in
+    let need : 3 ≤ s.owed = omega (arith, need_within s.rows place item.0 item.1, running_is c.args.pass item.0.row.state item.2, c.self.invariant.owed_is) in
     omega (arith, need, c.self.invariant.room.within)
 
 pub overflow_sub-self : goal.overflow_sub-self
 overflow_sub-self g c =
     let s = c.self.inside in
     let settled = subst (λ s. is_settled (core_of s).budget (core_of s).rows ≡ true) (sym c.self.view_is) c.requires.settled in
-    let at = subst (λ s. position (is_kept c.args.class c.args.key) s.rows ≡ Some c.args.place) (sym c.self.view_is) c.requires.at in
-    let running = subst (λ s. option_map (λ kept. is_running c.args.pass kept.row.state) (slice_get s.rows c.args.place) ≡ Some true) (sym c.self.view_is) c.requires.running in
-    let item = item_from (λ kept. is_running c.args.pass kept.row.state) s.rows c.args.place true running in
-    let need : 3 ≤ s.owed = omega (arith, need_within s.rows c.args.place item.0 item.1, running_is c.args.pass item.0.row.state item.2, c.self.invariant.owed_is) in
+    let place = c.requires.running.0 in
+    let at = subst (λ s. position (is_kept c.args.class c.args.key) s.rows ≡ Some place) (sym c.self.view_is) c.requires.running.1 in
+    let running = subst (λ s. option_map (λ kept. is_running c.args.pass kept.row.state) (slice_get s.rows place) ≡ Some true) (sym c.self.view_is) c.requires.running.2 in
+    let item = item_from (λ kept. is_running c.args.pass kept.row.state) s.rows place true running in
+    let need : 3 ≤ s.owed = omega (arith, need_within s.rows place item.0 item.1, running_is c.args.pass item.0.row.state item.2, c.self.invariant.owed_is) in
     omega (arith, need)
 
 pub invariant_of-self : goal.invariant_of-self
 invariant_of-self g c =
     let s = c.self.inside in
     let settled = subst (λ s. is_settled (core_of s).budget (core_of s).rows ≡ true) (sym c.self.view_is) c.requires.settled in
-    let at = subst (λ s. position (is_kept c.args.class c.args.key) s.rows ≡ Some c.args.place) (sym c.self.view_is) c.requires.at in
-    let running = subst (λ s. option_map (λ kept. is_running c.args.pass kept.row.state) (slice_get s.rows c.args.place) ≡ Some true) (sym c.self.view_is) c.requires.running in
-    let item = item_from (λ kept. is_running c.args.pass kept.row.state) s.rows c.args.place true running in
-    let need : 3 ≤ s.owed = omega (arith, need_within s.rows c.args.place item.0 item.1, running_is c.args.pass item.0.row.state item.2, c.self.invariant.owed_is) in
-    after_finish s.budget s.history.items c.push_reserved.new.self.items s.rows c.move_last.new.self s.live s.owed (vec_len s.history) (vec_capacity s.history)
-    (s.live + c.from.result) (s.owed - 1) (vec_len c.push_reserved.new.self) (vec_capacity c.push_reserved.new.self) c.args.pass c.args.class c.args.key (length c.as_slice.result.now) c.args.size c.args.place (arc_value c.args.value)
+    let place = c.requires.running.0 in
+    let at = subst (λ s. position (is_kept c.args.class c.args.key) s.rows ≡ Some place) (sym c.self.view_is) c.requires.running.1 in
+    let running = subst (λ s. option_map (λ kept. is_running c.args.pass kept.row.state) (slice_get s.rows place) ≡ Some true) (sym c.self.view_is) c.requires.running.2 in
+    let item = item_from (λ kept. is_running c.args.pass kept.row.state) s.rows place true running in
+    let need : 3 ≤ s.owed = omega (arith, need_within s.rows place item.0 item.1, running_is c.args.pass item.0.row.state item.2, c.self.invariant.owed_is) in
+    after_finish s.budget s.history.items c.push_reserved.new.self.items s.rows c.finish.new.self s.live s.owed (vec_len s.history) (vec_capacity s.history)
+    (s.live + c.from.result) (s.owed - 1) (vec_len c.push_reserved.new.self) (vec_capacity c.push_reserved.new.self) c.args.pass c.args.class c.args.key (length c.as_slice.result.now) c.args.size place (arc_value c.args.value)
     c.self.invariant settled at running (ap length c.as_slice.ensures.value) (omega (arith, c.ranges.size.fits))
     (omega (arith, c.from.ensures)) (omega (arith, need)) c.push_reserved.ensures.len
     (room_in (vec_len s.history + s.owed) _ (vec_capacity s.history) _ c.self.invariant.room (omega (arith, need, c.push_reserved.ensures.len)) (omega (arith, c.push_reserved.ensures.capacity))) c.push_reserved.ensures.items
-    (c.move_last.ensures ∙ ap (moved_last c.args.place) c.finish.ensures)
+    (c.finish.ensures place at)
 
 pub returns-clause-kept : goal.returns-clause-kept
 returns-clause-kept g c =
-    kept_from c.self.inside.budget c.push_reserved.new.self.items c.move_last.new.self (c.self.inside.live + c.from.result) (c.self.inside.owed - 1) (vec_len c.push_reserved.new.self) (vec_capacity c.push_reserved.new.self) (invariant_of-self g c)
+    kept_from c.self.inside.budget c.push_reserved.new.self.items c.finish.new.self (c.self.inside.live + c.from.result) (c.self.inside.owed - 1) (vec_len c.push_reserved.new.self) (vec_capacity c.push_reserved.new.self) (invariant_of-self g c)

@@ -7,42 +7,39 @@ use Rattle.cache_table.specs.Kept.{HasValue, touched_kept, with_state, rows_left
 use Rattle.cache_table.proofs.Keeping.{touched_at}
 use Rattle.cache_table.specs.Cache.{state_at}
 use Rattle.cache_table.proofs.Values.{has-released}
-use Rattle.cache_table.proofs.Settling.{state_there, test_there, not_absent, test_back}
+use Rattle.cache_table.proofs.Settling.{state_there, place_where}
 use Rattle.cache_table.proofs.table.Table.give.Goals as goal
 
 pub give-requires-clause-held : goal.give-requires-clause-held
 give-requires-clause-held g c =
     let passes = subst (λ s. is_in (is_held_by c.args.pass) (state_at c.args.class c.args.key s) ≡ true) (sym c.self.view_is) c.requires in
-    let place = sym c.place_of.ensures ∙ c.in-Some.is in
-    let old = c.self.inside.ledger in
-    test_there (is_held_by c.args.pass) c.args.class c.args.key old.rows c.in-Some.place place passes
-
-pub unreachable-requires : goal.unreachable-requires
-unreachable-requires g c =
-    let passes = subst (λ s. is_in (is_held_by c.args.pass) (state_at c.args.class c.args.key s) ≡ true) (sym c.self.view_is) c.requires in
-    not_absent (is_held_by c.args.pass) c.args.class c.args.key c.self.inside.ledger.rows (sym c.place_of.ensures ∙ c.in-None.is) passes
+    let there = place_where (is_held_by c.args.pass) c.args.class c.args.key c.self.inside.ledger.rows passes in
+    there
 
 pub returns-clause-adds : goal.returns-clause-adds
 returns-clause-adds g c =
-    let place = sym c.place_of.ensures ∙ c.in-Some.is in
+    let passes = subst (λ s. is_in (is_held_by c.args.pass) (state_at c.args.class c.args.key s) ≡ true) (sym c.self.view_is) c.requires in
+    let there = place_where (is_held_by c.args.pass) c.args.class c.args.key c.self.inside.ledger.rows passes in
     let given = c.give.ensures.adds in
-    let there = state_there c.args.class c.args.key c.self.inside.ledger.rows c.in-Some.place place in
+    let item = state_there c.args.class c.args.key c.self.inside.ledger.rows there.0 there.1 in
     let change = with_state (released_by c.args.pass) in
     let evicts = c.settle.ensures.evicts in
     let entry : Entry = record { pass = c.args.pass; class = c.args.class; key = c.args.key; act = Give given.0 } in (
       given.0,
       subst (λ s. is_in (is_live given.0) (state_at c.args.class c.args.key s) ≡ true) c.self.view_is
-          (test_back (is_live given.0) c.args.class c.args.key c.self.inside.ledger.rows c.in-Some.place place given.1),
+          given.1,
       record {
         budget = c.settle.ensures.budget ∙ given.2.budget ∙ ap (λ s. s.budget) c.self.view_is;
         evicts = evicts.0;
         history = evicts.2 ∙ ap (λ l. l ++ evicts.0) given.2.history ∙ append_assoc c.self.inside.ledger.history (entry ∷ []) evicts.0 ∙ ap (λ s. s.history ++ entry ∷ evicts.0) c.self.view_is;
         each = evicts.1;
-        rows = evicts.3 ∙ ap (rows_left evicts.0) (c.give.ensures.rows ∙ touched_at c.args.class c.args.key change c.self.inside.ledger.rows c.in-Some.place there.0 there.1 ∙ ap (λ s. touched_kept c.args.class c.args.key change s.rows) c.self.view_is);
+        rows = evicts.3 ∙ ap (rows_left evicts.0) ((c.give.ensures.rows there.0 there.1) ∙ touched_at c.args.class c.args.key change c.self.inside.ledger.rows there.0 item.0 item.1 ∙ ap (λ s. touched_kept c.args.class c.args.key change s.rows) c.self.view_is);
       },
     )
 
 pub returns-clause-values : goal.returns-clause-values
 returns-clause-values g c = λ class key serial value h.
+    let passes = subst (λ s. is_in (is_held_by c.args.pass) (state_at c.args.class c.args.key s) ≡ true) (sym c.self.view_is) c.requires in
+    let there = place_where (is_held_by c.args.pass) c.args.class c.args.key c.self.inside.ledger.rows passes in
     subst (λ s. HasValue class key serial value s.rows) c.self.view_is
-    (has-released class key serial value c.args.pass c.self.inside.ledger.rows c.give.new.self.rows c.in-Some.place c.give.ensures.rows (c.settle.ensures.values class key serial value h))
+    (has-released class key serial value c.args.pass c.self.inside.ledger.rows c.give.new.self.rows there.0 (c.give.ensures.rows there.0 there.1) (c.settle.ensures.values class key serial value h))

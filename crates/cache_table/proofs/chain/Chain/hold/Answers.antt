@@ -1,0 +1,56 @@
+use Rattle.std.proofs.Common.{◌≡◌, sym, ◌∙◌, ap, ap₂, refl, true≢false}
+use Rattle.std.specs.Prelude.{Some, is_some}
+use Rattle.std.specs.Option.{option_copied_mut}
+use Rattle.slab.specs.Slab.{get, with_value as with_slot}
+use Rattle.cache_core.specs.Rows.{held_by, row_in}
+use Rattle.cache_table.specs.Kept.{with_state}
+use Rattle.cache_table.specs.Slots.{order_of, chained, changed_item, on_kept, kept_at, kept_in}
+use Rattle.cache_table.specs.declared.chain.Link.{Link}
+use Rattle.cache_table.proofs.Slotted.{on_ok_from, on_err_map}
+use Rattle.cache_table.proofs.Chained.{standing, occupied, rewritten, closed, shown, changed-same}
+use Rattle.cache_table.proofs.chain.Chain.hold.Goals as goal
+
+pub unreachable-requires : goal.unreachable-requires
+unreachable-requires g c =
+    let s = c.self.inside in
+    let order = order_of s.slots s.first in
+    let at = standing s.slots order c.args.self.now c.requires.0 c.args.slot c.self.view_is c.requires.1 in
+    let has = occupied s.slots s.first s.last order c.requires.0 c.args.slot c.self.invariant at in
+    true≢false (sym has ∙ ap is_some (sym c.get_mut.ensures.value ∙ ap option_copied_mut c.in-None.is))
+
+pub invariant_of-self : goal.invariant_of-self
+invariant_of-self g c =
+    let s = c.self.inside in
+    let order = order_of s.slots s.first in
+    let was = c.in-Some.link.now in
+    let link : Link g.row.V.Denot = record { name = was.name; phase = c.hold.new.self; before = was.before; after = was.after } in
+    let before : get s.slots c.args.slot ≡ Some was = sym c.get_mut.ensures.value ∙ ap option_copied_mut c.in-Some.is in
+    let at = standing s.slots order c.args.self.now c.requires.0 c.args.slot c.self.view_is c.requires.1 in
+    let made = rewritten s.slots s.first s.last order c.requires.0 c.args.slot was link (λ _. kept_at (Some link)) c.self.invariant at before refl refl refl in
+    closed (with_slot s.slots c.args.slot link) s.first s.last order made.linked
+
+pub returns-clause-ok : goal.returns-clause-ok
+returns-clause-ok g c = λ place stands.
+    let s = c.self.inside in
+    let order = order_of s.slots s.first in
+    let was = c.in-Some.link.now in
+    let link : Link g.row.V.Denot = record { name = was.name; phase = c.hold.new.self; before = was.before; after = was.after } in
+    let before : get s.slots c.args.slot ≡ Some was = sym c.get_mut.ensures.value ∙ ap option_copied_mut c.in-Some.is in
+    let at = standing s.slots order c.args.self.now place c.args.slot c.self.view_is stands in
+    on_ok_from c.hold.result c.hold.ensures.state c.hold.ensures.value (λ state value.
+    let made = rewritten s.slots s.first s.last order place c.args.slot was link (with_state (held_by c.args.pass)) c.self.invariant at before refl refl
+    (ap₂ (λ t v. record { row = row_in was.name.class was.name.key t; value = v }) state value) in
+    shown (with_slot s.slots c.args.slot link) s.first s.last order made.linked ∙ made.rows ∙ ap (changed_item (on_kept (with_state (held_by c.args.pass))) place) c.self.view_is)
+
+pub returns-clause-err : goal.returns-clause-err
+returns-clause-err g c =
+    let s = c.self.inside in
+    let order = order_of s.slots s.first in
+    let was = c.in-Some.link.now in
+    let link : Link g.row.V.Denot = record { name = was.name; phase = c.hold.new.self; before = was.before; after = was.after } in
+    let before : get s.slots c.args.slot ≡ Some was = sym c.get_mut.ensures.value ∙ ap option_copied_mut c.in-Some.is in
+    let place = c.requires.0 in
+    let at = standing s.slots order c.args.self.now place c.args.slot c.self.view_is c.requires.1 in
+    on_err_map c.hold.result c.hold.ensures.err (λ same.
+    let made = rewritten s.slots s.first s.last order place c.args.slot was link (λ kept. kept) c.self.invariant at before refl refl (ap (kept_in was.name) same) in
+    shown (with_slot s.slots c.args.slot link) s.first s.last order made.linked ∙ made.rows ∙ changed-same (chained s.slots order) place ∙ c.self.view_is)
