@@ -1,4 +1,5 @@
 pub mod Callers
+pub mod Crossing
 pub mod Holdings
 pub mod Opening
 pub mod Passing

@@ -1,11 +1,12 @@
 -- A turn of a pass at the lock of a cache.
 use Rattle.std.proofs.Common.{◌≡◌, ℕ, true, false, Bool, List, [], ◌∷◌, ◌++◌, refl, sym, ap, ap₂, ◌∙◌, subst, append-nil, eqb-true, ◌&&◌, length}
-use Rattle.std.specs.Prelude.{Option, Some, None}
+use Rattle.std.specs.Prelude.{Option, Some, None, Result, Ok, Err, IfOk, OnErr}
 use Rattle.std.specs.List.{AllByRecursion}
 use Rattle.cache_core.specs.Rows.{is_running, is_held_by, is_live}
 use Rattle.cache_core.specs.Core.{is_in}
 use Rattle.cache_core.specs.History.{replay_of}
 use Rattle.cache_core.specs.Laws.{Leaves}
+use Rattle.cache_core.specs.declared.entry.Act.{Act}
 use Rattle.cache_core.specs.declared.entry.Entry.{Entry}
 use Rattle.cache_core.specs.declared.row.State.{State}
 use Rattle.cache_core.specs.declared.row.State.TheVariants.{Running, Live}
@@ -152,3 +153,10 @@ module _ {V K : Type 0} where
     waits = λ w. ap is_pending act ∙ pending_is call (state_at class key state.cache) ∙ not_pending wait (is_in is_any_running (state_at class key state.cache)) waits w;
     meant = subst (λ j. IsMeant (mean j class key) found) same_job meant;
   }
+
+-- what a call adds to a history: one entry of its pass, or nothing
+pub asked_log : {F E V K : Type 0} (r : Result F E) (act : F → Act) (old new : Plain V K) (pass class key : ℕ)
+    → IfOk r (λ found. Goes old new (entry_of pass class key (act found) ∷ [])) → OnErr r (Goes old new [])
+    → (added : List Entry) × (new.cache.history ≡ old.cache.history ++ added) × AreOf pass added
+asked_log (Ok found) act old new pass class key goes err = (entry_of pass class key (act found) ∷ [], goes.history, (refl, tt))
+asked_log (Err e) act old new pass class key goes err = ([], err.history, tt)

@@ -1,7 +1,8 @@
-use Rattle.std.proofs.Common.{◌∙◌, ap}
+use Rattle.std.proofs.Common.{◌∙◌, ap, sym, [], append-nil}
 use Rattle.cache_core.specs.Rows.{is_running}
 use Rattle.cache_core.specs.Core.{is_in}
 use Rattle.cache_table.specs.Cache.{state_at}
+use Rattle.turn_lock.specs.Lock.{Pass}
 use Rattle.compute_cache.proofs.Turning.{turned_none, owner_is}
 use Rattle.compute_cache.proofs.turns.is_owner.Goals as goal
 
@@ -21,3 +22,9 @@ returns-clause-owner g c =
     c.is_owner-owner.ensures
     ∙ ap (λ n. is_in (is_running n) (state_at c.args.class c.args.key state.cache)) c.number-number.ensures.number
     ∙ owner_is c.args.lock.now.origin.cache.budget c.args.pass.now state c.args.class c.args.key took.budget took.mine took.sound
+
+-- nothing is added to the history that was taken
+pub put-requires-clause-taken : goal.put-requires-clause-taken
+put-requires-clause-taken g c =
+    let history = c.open-state.result.0.cache.history in
+    (history, [], ap (λ (p : Pass _). p.taken) c.open-state.ensures.pass, sym (append-nil history), tt)

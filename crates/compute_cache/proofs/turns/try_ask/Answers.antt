@@ -1,8 +1,11 @@
-use Rattle.std.proofs.Common.{◌∙◌, ap, sym, []}
+use Rattle.std.proofs.Common.{◌∙◌, ap, sym, subst, [], append-nil}
 use Rattle.cache_core.specs.Rows.{is_running}
 use Rattle.cache_core.specs.Core.{is_in}
 use Rattle.cache_table.specs.Cache.{state_at}
-use Rattle.compute_cache.proofs.Turning.{turned_none, turned_from, owner_is, asked_from}
+use Rattle.turn_lock.specs.Lock.{Pass}
+use Rattle.turn_lock.specs.Entries.{AreOf}
+use Rattle.compute_cache.specs.Acts.{act_of}
+use Rattle.compute_cache.proofs.Turning.{asked_log, turned_none, turned_from, owner_is, asked_from}
 use Rattle.compute_cache.proofs.turns.try_ask.Goals as goal
 
 pub returns-then-keeps_waiting-clause-waits : goal.returns-then-keeps_waiting-clause-waits
@@ -37,4 +40,21 @@ returns-in-Err-clause-asked g c =
       state.cache.history,
       turned_from c.args.lock.now.origin.cache.budget c.args.pass.now c.open-state.new.pass c.put-2.new.pass state c.ask-found.new.self []
           took.budget took.begins took.mine c.ask-found.ensures.sound c.in-Err.ensures.err tt took.pass c.put-2.ensures.pass,
+    )
+
+-- nothing is added to the history that was taken
+pub put-requires-clause-taken : goal.put-requires-clause-taken
+put-requires-clause-taken g c =
+    let history = c.open-state.result.0.cache.history in
+    (history, [], ap (λ (p : Pass _). p.taken) c.open-state.ensures.pass, sym (append-nil history), tt)
+
+-- one entry of the pass is added, or none
+pub put-requires-2-clause-taken : goal.put-requires-2-clause-taken
+put-requires-2-clause-taken g c =
+    let asked = asked_log c.ask-found.result act_of c.open-state.result.0 c.ask-found.new.self c.number-number.result c.args.class c.args.key c.ask-found.ensures.goes c.ask-found.ensures.err in (
+      c.open-state.result.0.cache.history,
+      asked.0,
+      ap (λ (p : Pass _). p.taken) c.open-state.ensures.pass,
+      asked.1,
+      subst (λ n. AreOf n asked.0) (c.number-number.ensures.number ∙ sym (ap (λ (p : Pass _). p.number) c.open-state.ensures.pass)) asked.2,
     )
