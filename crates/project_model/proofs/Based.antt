@@ -21,7 +21,7 @@ use Rattle.project_model.specs.declared.place.Breach.{Breach}
 use Rattle.project_model.specs.declared.place.Place.{Place}
 use Rattle.project_model.specs.declared.plain.PlainProject.{PlainProject}
 use Rattle.project_model.specs.declared.rule.Rule.{Rule}
-use Rattle.project_model.specs.declared.rule.Rule.TheVariants.{Root, Size, Frames, FrameValue, Near, Length, Base, Solid, Mode, Matte, MatteLayer, Span, Rising, Range}
+use Rattle.project_model.specs.declared.rule.Rule.TheVariants.{Root, ClipName, ClipNames, Size, ClipDepth, Frames, FrameValue, Near, Length, Base, ClipBytes, Solid, ClipSource, CompSource, Nesting, Mode, Matte, MatteLayer, Span, Rising, Range, Rank}
 
 -- the place is that of another search where the tests are
 pub same_first : (places others : Rule → Option Place) → ((rule : Rule) → places rule ≡ others rule) → first_broken number_of places rules ≡ first_broken number_of others rules
@@ -29,20 +29,28 @@ same_first places others same = ap (λ (f : Rule → Option Place). first_broken
 
 pub same_place : (project : PlainProject) (is_based : Bool) → not is_based ≡ nat_lt greatest_base (common_base (times_of project)) → (rule : Rule) → place_given project is_based rule ≡ place_of project rule
 same_place project is_based e Root = refl
+same_place project is_based e ClipName = refl
+same_place project is_based e ClipNames = refl
 same_place project is_based e Size = refl
+same_place project is_based e ClipDepth = refl
 same_place project is_based e Frames = refl
 same_place project is_based e FrameValue = refl
 same_place project is_based e Near = refl
 same_place project is_based e Length = refl
 same_place project is_based e Base =
     ap (λ (b : Bool). first_place (λ comp. comp.layers) b (breaks_comp project Base) (breaks_layer project Base) project.comps) e
+same_place project is_based e ClipBytes = refl
 same_place project is_based e Solid = refl
+same_place project is_based e ClipSource = refl
+same_place project is_based e CompSource = refl
+same_place project is_based e Nesting = refl
 same_place project is_based e Mode = refl
 same_place project is_based e Matte = refl
 same_place project is_based e MatteLayer = refl
 same_place project is_based e Span = refl
 same_place project is_based e Rising = refl
 same_place project is_based e Range = refl
+same_place project is_based e Rank = refl
 
 pub record IsKept (project : PlainProject) (found : TimeBase) : Type 0 where
   pub none : breach_of project ≡ None
@@ -77,7 +85,10 @@ not_within a b = elim (cases_lt b a) [ inl h ↦ rw (lt-leb a b h, lt-ltb b a h)
 
 in_hand : (project : Project) (rule : Rule) → place_given (plain_of project) (nat_le (common_base (times_of (plain_of project))) greatest_base && is_based project) rule ≡ place_in project rule
 in_hand project Root = refl
+in_hand project ClipName = refl
+in_hand project ClipNames = refl
 in_hand project Size = refl
+in_hand project ClipDepth = refl
 in_hand project Frames = refl
 in_hand project FrameValue = refl
 in_hand project Near = refl
@@ -87,13 +98,18 @@ in_hand project Base =
     choice (λ (comp : PlainComp). comp.layers) (breaks_comp plain Base) (breaks_layer plain Base) plain.comps
     (nat_le (common_base (times_of plain)) greatest_base) (is_based project) _
     (not_within (common_base (times_of plain)) greatest_base)
+in_hand project ClipBytes = refl
 in_hand project Solid = refl
+in_hand project ClipSource = refl
+in_hand project CompSource = refl
+in_hand project Nesting = refl
 in_hand project Mode = refl
 in_hand project Matte = refl
 in_hand project MatteLayer = refl
 in_hand project Span = refl
 in_hand project Rising = refl
 in_hand project Range = refl
+in_hand project Rank = refl
 
 -- the breach that is found
 pub found_in : (project : Project) (plain : PlainProject) (times : List Time) (flag : Bool) (found : Option Breach) → plain ≡ plain_of project → times ≡ times_of plain → flag ≡ (nat_le (common_base times) greatest_base && is_based_on (common_base times) project) → found ≡ breach_given plain flag → found ≡ breach_in project

@@ -1,6 +1,6 @@
 -- A project in hand that passes is sound.
 use Rattle.std.proofs.Common.{◌≡◌, ℕ, ◌≤◌, Bool, true, List, sym, ◌∙◌, subst, ap, arith}
-use Rattle.std.specs.Prelude.{Option, Some, None, not, nat_lt, nat_le, ◌&&◌}
+use Rattle.std.specs.Prelude.{Option, None, not, nat_lt, nat_le, ◌&&◌}
 use Rattle.std.specs.List.{All, list_all}
 use Rattle.std.proofs.lemmas.Bool.{and_parts, leb-true, le-ltb, not-false, eqb-true}
 use Rattle.std.proofs.lemmas.List.Elements.{All-weaker}
@@ -44,12 +44,18 @@ all_based base comps e =
     All-weaker (λ (comp : Comp). list_all (layer_is_based base) comp.layers ≡ true) (IsBasedComp base) (comp_based base) comps
     (AllPass-from_list_all (λ (comp : Comp). list_all (layer_is_based base) comp.layers) comps e)
 
+-- where nothing was found, rule 25 was kept
+pub base_kept : (plain : PlainProject) (flag : Bool) (found : Option Breach) → found ≡ breach_given plain flag → found ≡ None → flag ≡ true
+base_kept plain flag found search none =
+    let given : breach_given plain flag ≡ None = sym search ∙ none in
+    let outside : place_given plain flag Base ≡ None = each_kept (place_given plain flag) (all_kept number_of (place_given plain flag) rules given) Base in
+    not-false flag (chosen_none (not flag) place.Project _ outside).0
+
 -- what the test of the base says where nothing was found
 pub checked_sound : (project : Project) (plain : PlainProject) (times : List Time) (flag : Bool) (found : Option Breach) → plain ≡ plain_of project → IsFormed plain → times ≡ times_of plain → flag ≡ (nat_le (common_base times) greatest_base && is_based_on (common_base times) project) → found ≡ breach_given plain flag → found ≡ None → IsSound project
 checked_sound project plain times flag found same formed are is search none =
     let given : breach_given plain flag ≡ None = sym search ∙ none in
-    let outside : place_given plain flag Base ≡ None = each_kept (place_given plain flag) (all_kept number_of (place_given plain flag) rules given) Base in
-    let flagged : flag ≡ true = not-false flag (chosen_none (not flag) place.Project _ outside).0 in
+    let flagged : flag ≡ true = base_kept plain flag found search none in
     let both = and_parts (nat_le (common_base times) greatest_base) (is_based_on (common_base times) project) (sym is ∙ flagged) in
     let based = and_parts _ _ both.1 in
     let small : common_base times ≤ greatest_base = leb-true _ _ both.0 in

@@ -1,8 +1,8 @@
 -- Plain parts that were copied from a project.
-use Rattle.std.proofs.Common.{◌≡◌, ℕ, ◌+◌, ◌≤◌, ◌<◌, List, [], ◌∷◌, ◌++◌, length, map, take, sym, ◌∙◌, ap, arith}
+use Rattle.std.proofs.Common.{◌≡◌, ℕ, ◌+◌, ◌≤◌, ◌<◌, List, [], ◌∷◌, ◌++◌, length, map, take, ◌∙◌, ap, arith}
 use Rattle.std.specs.Prelude.{Option, Some, None, option_to_list, slice_index_or}
 use Rattle.std.specs.List.{All, flat_map}
-use Rattle.std.proofs.lemmas.List.{map-append, take_more, length-map}
+use Rattle.std.proofs.lemmas.List.{length-map}
 use Rattle.std.proofs.lemmas.List.Elements.{All-nil, All-cons, All-head, All-tail, All-append, All-map, All-push, All-same}
 use Rattle.rational_time.specs.declared.time.Time.{Time}
 use Rattle.param_stream.specs.declared.key.Keyframe.{Keyframe}
@@ -10,10 +10,12 @@ use Rattle.project_model.specs.Bounds.{scale_of, is_bit_depth}
 use Rattle.project_model.specs.Form.{IsFormed, IsFormedComp, plain_layer_count}
 use Rattle.project_model.specs.Plain.{plain_comp}
 use Rattle.project_model.specs.Times.{key_times, layer_times, comp_times}
+use Rattle.project_model.specs.declared.clip.ClipUse.{ClipUse}
 use Rattle.project_model.specs.declared.project.Project.{Project}
 use Rattle.project_model.specs.declared.plain.PlainLayer.{PlainLayer}
 use Rattle.project_model.specs.declared.plain.PlainComp.{PlainComp}
 use Rattle.project_model.proofs.Joined.{same_count}
+use Rattle.project_model.proofs.Pushed.{mapped_more}
 
 abbrev IsScaled : Time → Type 0
 IsScaled time = 1 ≤ time.scale
@@ -48,23 +50,27 @@ comps_scaled comps all = joined IsScaled comp_times comps all
 -- one more is copied
 pub copied_more : {A B : Type 0} (f : A → B) (P Q : B → Type 0) (list : List A) (i : ℕ) (a : A) (items more : List B) (b : B) → items ≡ map f (take i list) → All P items → All Q items → i < length list → a ≡ slice_index_or list i a → more ≡ items ++ b ∷ [] → b ≡ f a → P b → Q b → (more ≡ map f (take (i + 1) list)) × All P more × All Q more
 copied_more f P Q list i a items more b e all every within is grown same p q = (
-  grown
-      ∙ ap (λ (xs : _). xs ++ b ∷ []) e
-      ∙ ap (λ (x : _). map f (take i list) ++ x ∷ []) (same ∙ ap f is)
-      ∙ sym (map-append f (take i list) (slice_index_or list i a ∷ []))
-      ∙ ap (map f) (sym (take_more list i a within)),
+  mapped_more f list i a items more b e within is grown same,
   All-same P more (items ++ b ∷ []) grown (All-push P items b all p),
   All-same Q more (items ++ b ∷ []) grown (All-push Q items b every q),
 )
 
-pub formed : (project : Project) (depth : ℕ) (comps : List PlainComp) → depth ≡ project.depth → comps ≡ map plain_comp project.comps → All IsFormedComp comps → All (λ comp. All (λ time. 1 ≤ time.scale) (comp_times comp)) comps → IsFormed (record { depth = depth; root = project.root; comps = comps })
-formed project depth comps e f all scaled =
+-- the times of clips, as they were declared
+clips_scaled : (clips : List ClipUse) → All (λ (clip : ClipUse). 1 ≤ clip.frame.scale) clips → All IsScaled (map (λ (clip : ClipUse). clip.frame) clips)
+clips_scaled clips all = All-map IsScaled (λ (clip : ClipUse). clip.frame) clips all
+
+pub formed : (project : Project) (depth : ℕ) (clips : List ClipUse) (comps : List PlainComp) → depth ≡ project.depth → clips ≡ project.clips → comps ≡ map plain_comp project.comps → All IsFormedComp comps → All (λ comp. All (λ time. 1 ≤ time.scale) (comp_times comp)) comps → IsFormed (record { depth = depth; root = project.root; clips = clips; comps = comps })
+formed project depth clips comps e same f all scaled =
     let count : length comps ≡ length project.comps = ap (length {A = PlainComp}) f ∙ length-map project.comps plain_comp in
+    let few : length clips ≡ length project.clips = ap (length {A = ClipUse}) same in
     record {
       bits = ap is_bit_depth e ∙ project.bits;
+      few_clips = omega (arith, few, project.few_clips);
       some_comp = omega (arith, count, project.some_comp);
       few_comps = omega (arith, count, project.few_comps);
       few_layers = omega (arith, ap plain_layer_count f, same_count project.comps, project.few_layers);
       comps = all;
-      scaled = comps_scaled comps scaled;
+      scaled = All-append IsScaled (map (λ (clip : ClipUse). clip.frame) clips) (flat_map comp_times comps)
+          (clips_scaled clips (All-same (λ (clip : ClipUse). 1 ≤ clip.frame.scale) clips project.clips same project.clips_scaled))
+          (comps_scaled comps scaled);
     }

@@ -61,8 +61,10 @@ tests_form project = (
       let layers = and_parts _ _ comps.0 in
       let counts = and_parts _ _ layers.0 in
       let among = and_parts _ _ counts.1 in
+      let front = and_parts _ _ counts.0 in
       record {
-        bits = counts.0;
+        bits = front.0;
+        few_clips = leb-true _ _ front.1;
         some_comp = leb-true _ _ among.0;
         few_comps = leb-true _ _ among.1;
         few_layers = leb-true _ _ layers.1;
@@ -73,7 +75,7 @@ tests_form project = (
       and_from _ _
       (and_from _ _
       (and_from _ _
-      (and_from _ _ h.bits (and_from _ _ (le-leb _ _ h.some_comp) (le-leb _ _ h.few_comps)))
+      (and_from _ _ (and_from _ _ h.bits (le-leb _ _ h.few_clips)) (and_from _ _ (le-leb _ _ h.some_comp) (le-leb _ _ h.few_comps)))
       (le-leb _ _ h.few_layers))
       ((all_tests is_formed_comp IsFormedComp tests_comp project.comps).1 h.comps))
       ((all_tests is_scaled (λ time. 1 ≤ time.scale) tests_scale (times_of project)).1 h.scaled),

@@ -1,8 +1,8 @@
 -- What the rules say of a project that breaks none.
-use Rattle.std.proofs.Common.{◌≡◌, ℕ, ◌+◌, ◌≤◌, Bool, true, false, List, [], ◌∷◌, ℤ, pos, ◌≤ℤ◌, refl, arith}
-use Rattle.std.specs.Prelude.{Option, Some, None, option_map, is_none, IsSome, IsTrue, ◌&&◌, int_lt, int_le, if◌then◌else◌}
+use Rattle.std.proofs.Common.{◌≡◌, ℕ, ◌+◌, ◌≤◌, Bool, true, false, List, [], ◌∷◌, length, ℤ, pos, ◌≤ℤ◌, refl, arith}
+use Rattle.std.specs.Prelude.{Option, Some, None, option_map, is_none, IsSome, IsTrue, ◌&&◌, int_lt, int_le, slice_index_or, if◌then◌else◌}
 use Rattle.std.specs.List.{All, list_all}
-use Rattle.std.proofs.lemmas.Bool.{and_parts, leb-true, not-false}
+use Rattle.std.proofs.lemmas.Bool.{and_parts, leb-true, ltb-true, not-false}
 use Rattle.std.proofs.lemmas.Int.{ints}
 use Rattle.std.proofs.lemmas.List.Elements.{All-nil, All-cons, All-weaker}
 use Rattle.std.proofs.lemmas.List.Sums.{AllPass-from_list_all}
@@ -13,18 +13,18 @@ use Rattle.param_stream.specs.declared.key.Keyframe.{Keyframe}
 use Rattle.project_model.specs.Bounds.{most_of, most_frames, full_opacity, least_position, greatest_position, is_among, is_size, is_colour, is_between}
 use Rattle.project_model.specs.Broken.{first_broken, breach_of}
 use Rattle.project_model.specs.Places.{first_of_two, first_from, first_in_comps}
-use Rattle.project_model.specs.Rules.{number_of, rules, place_of, breaks_project, breaks_comp, breaks_layer, is_solid, all_between}
+use Rattle.project_model.specs.Rules.{number_of, rules, place_of, breaks_project, breaks_comp, breaks_layer, is_solid, is_clip_of, is_comp_of, all_between}
 use Rattle.project_model.specs.Sound.{IsPictureSize, IsColour, IsSoundItem}
 use Rattle.project_model.specs.Times.{layer_times}
 use Rattle.project_model.specs.declared.item.Item.{Item}
-use Rattle.project_model.specs.declared.item.Item.TheVariants.{Solid as SolidItem}
+use Rattle.project_model.specs.declared.item.Item.TheVariants.{Solid as SolidItem, Clip as ClipItem, Comp as CompItem}
 use Rattle.project_model.specs.declared.place.Place.{Place}
 use Rattle.project_model.specs.declared.place.Place.TheVariants as place
 use Rattle.project_model.specs.declared.plain.PlainLayer.{PlainLayer}
 use Rattle.project_model.specs.declared.plain.PlainComp.{PlainComp}
 use Rattle.project_model.specs.declared.plain.PlainProject.{PlainProject}
 use Rattle.project_model.specs.declared.rule.Rule.{Rule}
-use Rattle.project_model.specs.declared.rule.Rule.TheVariants.{Root, Size, Frames, FrameValue, Near, Length, Base, Solid, Mode, Matte, MatteLayer, Span, Rising, Range}
+use Rattle.project_model.specs.declared.rule.Rule.TheVariants.{Root, ClipName, ClipNames, Size, ClipDepth, Frames, FrameValue, Near, Length, Base, ClipBytes, Solid, ClipSource, CompSource, Nesting, Mode, Matte, MatteLayer, Span, Rising, Range, Rank}
 
 -- ---- nothing is found
 
@@ -49,19 +49,27 @@ all_kept number_of place_of (rule ∷ rest) e =
 
 pub each_kept : (place_of : Rule → Option Place) → AreKept place_of rules → (rule : Rule) → place_of rule ≡ None
 each_kept place_of h Root = h.0
-each_kept place_of h Size = h.1.0
-each_kept place_of h Frames = h.1.1.0
-each_kept place_of h FrameValue = h.1.1.1.0
-each_kept place_of h Near = h.1.1.1.1.0
-each_kept place_of h Length = h.1.1.1.1.1.0
-each_kept place_of h Base = h.1.1.1.1.1.1.0
-each_kept place_of h Solid = h.1.1.1.1.1.1.1.0
-each_kept place_of h Mode = h.1.1.1.1.1.1.1.1.0
-each_kept place_of h Matte = h.1.1.1.1.1.1.1.1.1.0
-each_kept place_of h MatteLayer = h.1.1.1.1.1.1.1.1.1.1.0
-each_kept place_of h Span = h.1.1.1.1.1.1.1.1.1.1.1.0
-each_kept place_of h Rising = h.1.1.1.1.1.1.1.1.1.1.1.1.0
-each_kept place_of h Range = h.1.1.1.1.1.1.1.1.1.1.1.1.1.0
+each_kept place_of h ClipName = h.1.0
+each_kept place_of h ClipNames = h.1.1.0
+each_kept place_of h Size = h.1.1.1.0
+each_kept place_of h ClipDepth = h.1.1.1.1.0
+each_kept place_of h Frames = h.1.1.1.1.1.0
+each_kept place_of h FrameValue = h.1.1.1.1.1.1.0
+each_kept place_of h Near = h.1.1.1.1.1.1.1.0
+each_kept place_of h Length = h.1.1.1.1.1.1.1.1.0
+each_kept place_of h Base = h.1.1.1.1.1.1.1.1.1.0
+each_kept place_of h ClipBytes = h.1.1.1.1.1.1.1.1.1.1.0
+each_kept place_of h Solid = h.1.1.1.1.1.1.1.1.1.1.1.0
+each_kept place_of h ClipSource = h.1.1.1.1.1.1.1.1.1.1.1.1.0
+each_kept place_of h CompSource = h.1.1.1.1.1.1.1.1.1.1.1.1.1.0
+each_kept place_of h Nesting = h.1.1.1.1.1.1.1.1.1.1.1.1.1.1.0
+each_kept place_of h Mode = h.1.1.1.1.1.1.1.1.1.1.1.1.1.1.1.0
+each_kept place_of h Matte = h.1.1.1.1.1.1.1.1.1.1.1.1.1.1.1.1.0
+each_kept place_of h MatteLayer = h.1.1.1.1.1.1.1.1.1.1.1.1.1.1.1.1.1.0
+each_kept place_of h Span = h.1.1.1.1.1.1.1.1.1.1.1.1.1.1.1.1.1.1.0
+each_kept place_of h Rising = h.1.1.1.1.1.1.1.1.1.1.1.1.1.1.1.1.1.1.1.0
+each_kept place_of h Range = h.1.1.1.1.1.1.1.1.1.1.1.1.1.1.1.1.1.1.1.1.0
+each_kept place_of h Rank = h.1.1.1.1.1.1.1.1.1.1.1.1.1.1.1.1.1.1.1.1.1.0
 
 -- no test accepts, at whatever index it is asked
 pub record IsPassed {C L : Type 0} (in_comp : ℕ → C → Bool) (in_layer : C → ℕ → L → Bool) (layers : List L) (comp : C) : Type 0 where
@@ -108,12 +116,12 @@ outside_passed project e rule =
 
 -- ---- in numbers
 
-among : (low high n : ℕ) → is_among low high n ≡ true → (low ≤ n) × (n ≤ high)
+pub among : (low high n : ℕ) → is_among low high n ≡ true → (low ≤ n) × (n ≤ high)
 among low high n e =
     let both = and_parts _ _ e in
     (leb-true low n both.0, leb-true n high both.1)
 
-picture_size : (width height : ℕ) → is_size width height ≡ true → IsPictureSize width height
+pub picture_size : (width height : ℕ) → is_size width height ≡ true → IsPictureSize width height
 picture_size width height e =
     let parts = and_parts _ _ e in
     let sides = and_parts _ _ parts.0 in
@@ -128,12 +136,14 @@ colour most a r g b e =
     let red = and_parts _ _ green.0 in
     record { alpha = leb-true _ _ red.0; red = leb-true _ _ red.1; green = leb-true _ _ green.1; blue = leb-true _ _ blue.1 }
 
-sound_item : (most : ℕ) (item : Item) → is_solid most item ≡ true → IsSoundItem most item
-sound_item most (SolidItem width height a r g b) e =
-    let parts = and_parts _ _ e in
+sound_item : (most clips comps : ℕ) (item : Item) → is_solid most item ≡ true → is_clip_of clips item ≡ true → is_comp_of comps item ≡ true → IsSoundItem most clips comps item
+sound_item most clips comps (SolidItem width height a r g b) solid clip comp =
+    let parts = and_parts _ _ solid in
     (picture_size width height parts.0, colour most a r g b parts.1)
+sound_item most clips comps (ClipItem index) solid clip comp = ltb-true index clips clip
+sound_item most clips comps (CompItem index) solid clip comp = ltb-true index comps comp
 
-near : (time : Time) → is_near time ≡ true → IsNear time
+pub near : (time : Time) → is_near time ≡ true → IsNear time
 near time e = leb-true _ _ e
 
 all_near : (times : List Time) → list_all is_near times ≡ true → All IsNear times
@@ -162,14 +172,14 @@ pub record KeepsRanges (layer : PlainLayer) : Type 0 where
   pub x : All (λ key. IsBetween least_position greatest_position key.value) layer.x
   pub y : All (λ key. IsBetween least_position greatest_position key.value) layer.y
 
-pub record KeepsComp (depth : ℕ) (comp : PlainComp) : Type 0 where
+pub record KeepsComp (depth clips comps : ℕ) (comp : PlainComp) : Type 0 where
   pub size : IsPictureSize comp.width comp.height
   pub some_frame : 1 ≤ comp.frames
   pub few_frames : comp.frames ≤ most_frames
   pub some_time : pos 1 ≤ℤ comp.frame.value
   pub frame_near : IsNear comp.frame
   pub layers_near : All (λ layer. All IsNear (layer_times layer)) comp.layers
-  pub sources : All (λ layer. IsSoundItem (most_of depth) layer.source) comp.layers
+  pub sources : All (λ layer. IsSoundItem (most_of depth) clips comps layer.source) comp.layers
   pub modes : All (λ layer. IsSome layer.mode) comp.layers
   pub mattes : All (λ layer. IsSome layer.matte) comp.layers
   pub rising : All KeepsStreams comp.layers
@@ -194,7 +204,7 @@ some_of (Some a) e = refl
 above : (value : ℤ) → int_lt value (pos 1) ≡ false → pos 1 ≤ℤ value
 above value e = omega (arith, ints, e)
 
-comp_keeps : (project : PlainProject) (comp : PlainComp) → ((rule : Rule) → IsPassed (breaks_comp project rule) (breaks_layer project rule) comp.layers comp) → KeepsComp project.depth comp
+comp_keeps : (project : PlainProject) (comp : PlainComp) → ((rule : Rule) → IsPassed (breaks_comp project rule) (breaks_layer project rule) comp.layers comp) → KeepsComp project.depth (length project.clips) (length project.comps) comp
 comp_keeps project comp h =
     let frames = among 1 most_frames comp.frames (not-false _ (h Frames).comp_passed) in
     record {
@@ -204,12 +214,15 @@ comp_keeps project comp h =
       some_time = above comp.frame.value (h FrameValue).comp_passed;
       frame_near = near comp.frame (not-false _ (h Near).comp_passed);
       layers_near = All-weaker (λ layer. (m : ℕ) × (breaks_layer project Near comp m layer ≡ false)) (λ layer. All IsNear (layer_times layer)) (λ layer k. all_near (layer_times layer) (not-false _ k.1)) comp.layers (h Near).layers_passed;
-      sources = All-weaker (λ layer. (m : ℕ) × (breaks_layer project Solid comp m layer ≡ false)) (λ layer. IsSoundItem (most_of project.depth) layer.source) (λ layer k. sound_item (most_of project.depth) layer.source (not-false _ k.1)) comp.layers (h Solid).layers_passed;
+      sources = λ k d within.
+          sound_item (most_of project.depth) (length project.clips) (length project.comps) (slice_index_or comp.layers k d).source
+          (not-false _ ((h Solid).layers_passed k d within).1) (not-false _ ((h ClipSource).layers_passed k d within).1)
+          (not-false _ ((h CompSource).layers_passed k d within).1);
       modes = All-weaker (λ layer. (m : ℕ) × (breaks_layer project Mode comp m layer ≡ false)) (λ layer. IsSome layer.mode) (λ layer k. some_of layer.mode k.1) comp.layers (h Mode).layers_passed;
       mattes = All-weaker (λ layer. (m : ℕ) × (breaks_layer project Matte comp m layer ≡ false)) (λ layer. IsSome layer.matte) (λ layer k. some_of layer.matte k.1) comp.layers (h Matte).layers_passed;
       rising = All-weaker (λ layer. (m : ℕ) × (breaks_layer project Rising comp m layer ≡ false)) KeepsStreams (λ layer k. rising_layer layer (not-false _ k.1)) comp.layers (h Rising).layers_passed;
       ranges = All-weaker (λ layer. (m : ℕ) × (breaks_layer project Range comp m layer ≡ false)) KeepsRanges (λ layer k. ranged_layer layer (not-false _ k.1)) comp.layers (h Range).layers_passed;
     }
 
-pub comps_keep : (project : PlainProject) → breach_of project ≡ None → All (KeepsComp project.depth) project.comps
+pub comps_keep : (project : PlainProject) → breach_of project ≡ None → All (KeepsComp project.depth (length project.clips) (length project.comps)) project.comps
 comps_keep project e k d within = comp_keeps project _ (λ rule. each_passed project e rule k d within)

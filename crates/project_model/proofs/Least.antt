@@ -9,7 +9,7 @@ use Rattle.project_model.specs.declared.place.Breach.{Breach}
 use Rattle.project_model.specs.declared.place.Place.{Place}
 use Rattle.project_model.specs.declared.plain.PlainProject.{PlainProject}
 use Rattle.project_model.specs.declared.rule.Rule.{Rule}
-use Rattle.project_model.specs.declared.rule.Rule.TheVariants.{Root, Size, Frames, FrameValue, Near, Length, Base, Solid, Mode, Matte, MatteLayer, Span, Rising, Range}
+use Rattle.project_model.specs.declared.rule.Rule.TheVariants.{Root, ClipName, ClipNames, Size, ClipDepth, Frames, FrameValue, Near, Length, Base, ClipBytes, Solid, ClipSource, CompSource, Nesting, Mode, Matte, MatteLayer, Span, Rising, Range, Rank}
 use Rattle.project_model.proofs.Keeps.{all_kept, each_kept}
 
 -- ---- none is broken
@@ -72,22 +72,30 @@ found number_of place_of n (rule ∷ rest) breach rise e =
 
 each_below : (place_of : Rule → Option Place) (n : ℕ) → KeptBelow number_of place_of n rules → (rule : Rule) → number_of rule < n → place_of rule ≡ None
 each_below place_of n h Root = h.0
-each_below place_of n h Size = h.1.0
-each_below place_of n h Frames = h.1.1.0
-each_below place_of n h FrameValue = h.1.1.1.0
-each_below place_of n h Near = h.1.1.1.1.0
-each_below place_of n h Length = h.1.1.1.1.1.0
-each_below place_of n h Base = h.1.1.1.1.1.1.0
-each_below place_of n h Solid = h.1.1.1.1.1.1.1.0
-each_below place_of n h Mode = h.1.1.1.1.1.1.1.1.0
-each_below place_of n h Matte = h.1.1.1.1.1.1.1.1.1.0
-each_below place_of n h MatteLayer = h.1.1.1.1.1.1.1.1.1.1.0
-each_below place_of n h Span = h.1.1.1.1.1.1.1.1.1.1.1.0
-each_below place_of n h Rising = h.1.1.1.1.1.1.1.1.1.1.1.1.0
-each_below place_of n h Range = h.1.1.1.1.1.1.1.1.1.1.1.1.1.0
+each_below place_of n h ClipName = h.1.0
+each_below place_of n h ClipNames = h.1.1.0
+each_below place_of n h Size = h.1.1.1.0
+each_below place_of n h ClipDepth = h.1.1.1.1.0
+each_below place_of n h Frames = h.1.1.1.1.1.0
+each_below place_of n h FrameValue = h.1.1.1.1.1.1.0
+each_below place_of n h Near = h.1.1.1.1.1.1.1.0
+each_below place_of n h Length = h.1.1.1.1.1.1.1.1.0
+each_below place_of n h Base = h.1.1.1.1.1.1.1.1.1.0
+each_below place_of n h ClipBytes = h.1.1.1.1.1.1.1.1.1.1.0
+each_below place_of n h Solid = h.1.1.1.1.1.1.1.1.1.1.1.0
+each_below place_of n h ClipSource = h.1.1.1.1.1.1.1.1.1.1.1.1.0
+each_below place_of n h CompSource = h.1.1.1.1.1.1.1.1.1.1.1.1.1.0
+each_below place_of n h Nesting = h.1.1.1.1.1.1.1.1.1.1.1.1.1.1.0
+each_below place_of n h Mode = h.1.1.1.1.1.1.1.1.1.1.1.1.1.1.1.0
+each_below place_of n h Matte = h.1.1.1.1.1.1.1.1.1.1.1.1.1.1.1.1.0
+each_below place_of n h MatteLayer = h.1.1.1.1.1.1.1.1.1.1.1.1.1.1.1.1.1.0
+each_below place_of n h Span = h.1.1.1.1.1.1.1.1.1.1.1.1.1.1.1.1.1.1.0
+each_below place_of n h Rising = h.1.1.1.1.1.1.1.1.1.1.1.1.1.1.1.1.1.1.1.0
+each_below place_of n h Range = h.1.1.1.1.1.1.1.1.1.1.1.1.1.1.1.1.1.1.1.1.0
+each_below place_of n h Rank = h.1.1.1.1.1.1.1.1.1.1.1.1.1.1.1.1.1.1.1.1.1.0
 
 rules_rise : Rise number_of 0 rules
-rules_rise = (lit< tt, (lit< tt, (lit< tt, (lit< tt, (lit< tt, (lit< tt, (lit< tt, (lit< tt, (lit< tt, (lit< tt, (lit< tt, (lit< tt, (lit< tt, (lit< tt, tt))))))))))))))
+rules_rise = (lit< tt, (lit< tt, (lit< tt, (lit< tt, (lit< tt, (lit< tt, (lit< tt, (lit< tt, (lit< tt, (lit< tt, (lit< tt, (lit< tt, (lit< tt, (lit< tt, (lit< tt, (lit< tt, (lit< tt, (lit< tt, (lit< tt, (lit< tt, (lit< tt, (lit< tt, tt))))))))))))))))))))))
 
 pub least_breach : (project : PlainProject) (breach : Breach) → breach_of project ≡ Some breach → IsLeastBreach project breach
 least_breach project breach e =

@@ -1,4 +1,5 @@
 pub mod Based
+pub mod Below
 pub mod Checked
 pub mod Copied
 pub mod First
@@ -8,5 +9,9 @@ pub mod Hand
 pub mod Joined
 pub mod Keeps
 pub mod Least
+pub mod Named
+pub mod Nesting
+pub mod Pushed
+pub mod Ranked
 pub mod Readied
 pub mod Widths

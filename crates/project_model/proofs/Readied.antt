@@ -1,33 +1,44 @@
 -- Parts that keep the rules can be made, and what is made of them is sound.
-use Rattle.std.proofs.Common.{◌≡◌, ℕ, ◌≤◌, List, [], ◌∷◌, ◌++◌, length, map, ℤ, pos, sym, ◌∙◌, subst, ap, arith}
-use Rattle.std.specs.Prelude.{Option, Some, None, IsSome, IsTrue, option_to_list, slice_index_or}
+use Rattle.std.proofs.Common.{◌≡◌, ℕ, zero, suc, ◌≤◌, Bool, true, false, List, [], ◌∷◌, ◌++◌, length, map, ℤ, pos, ◌≤ℤ◌, inl, inr, refl, sym, ◌∙◌, subst, ap, arith, eqb}
+use Rattle.std.specs.Prelude.{◌⊎◌, Option, Some, None, IsSome, IsTrue, not, int_le, option_to_list, slice_get, slice_index_or}
 use Rattle.std.specs.Int.{◌∣◌}
-use Rattle.std.specs.List.{All, flat_map}
+use Rattle.std.specs.List.{All, list_all, flat_map}
 use Rattle.std.proofs.lemmas.List.{length-map}
 use Rattle.std.proofs.lemmas.List.Elements.{All-nil, All-cons, All-head, All-tail, All-weaker}
-use Rattle.std.proofs.lemmas.Bool.{ltb-true, not-false}
+use Rattle.std.proofs.lemmas.Bool.{ltb-true, not-false, eqb-true, false_from_ne_true}
+use Rattle.std.proofs.lemmas.Int.{ints}
+use Rattle.std.proofs.lemmas.List.Sums.{AllPass-from_list_all}
 use Rattle.rational_time.proofs.Multiples.{is_base}
-use Rattle.rational_time.specs.Times.{IsNear, common_base}
+use Rattle.rational_time.specs.Times.{IsNear, common_base, is_near}
 use Rattle.rational_time.specs.declared.time.Time.{Time}
 use Rattle.rational_time.specs.declared.time.TimeBase.{TimeBase}
 use Rattle.param_stream.specs.Curve.{Curve, IsTimed, IsBetween, rises}
 use Rattle.param_stream.specs.declared.key.Keyframe.{Keyframe}
 use Rattle.param_stream.proofs.Rising.{both_rise}
-use Rattle.project_model.specs.Bounds.{most_of, greatest_base, full_opacity, least_position, greatest_position}
+use Rattle.project_model.specs.Bounds.{most_of, most_frames, is_among, is_bit_depth, is_size, greatest_base, full_opacity, least_position, greatest_position}
 use Rattle.project_model.specs.Broken.{breach_of}
 use Rattle.project_model.specs.Form.{IsFormed, IsFormedComp, IsFormedLayer, IsKeyCount}
+use Rattle.project_model.specs.Laws.{IsBrokenAt}
+use Rattle.project_model.specs.Nesting.{reaches, IsAcyclic}
 use Rattle.project_model.specs.Plain.{plain_layer, plain_comp, plain_of}
 use Rattle.project_model.specs.Ready.{AreReady, IsReadyLayer, IsReadyComp, IsBasedLayer, IsBasedComp}
-use Rattle.project_model.specs.Sound.{IsWritten, MayBeWritten, IsMadeWith, IsSoundItem, IsSoundLayer, IsSoundComp, IsSound}
+use Rattle.project_model.specs.Sound.{IsPictureSize, IsWritten, MayBeWritten, IsMadeWith, IsSoundItem, IsSoundClip, IsSoundLayer, IsSoundComp, IsSound}
 use Rattle.project_model.specs.Times.{key_times, layer_times, comp_times, times_of}
+use Rattle.project_model.specs.declared.clip.ClipUse.{ClipUse}
+use Rattle.project_model.specs.declared.place.Place.{Place}
+use Rattle.project_model.specs.declared.place.Place.TheVariants as place
 use Rattle.project_model.specs.declared.layer.Layer.{Layer}
 use Rattle.project_model.specs.declared.comp.Comp.{Comp}
 use Rattle.project_model.specs.declared.project.Project.{Project}
 use Rattle.project_model.specs.declared.plain.PlainLayer.{PlainLayer}
 use Rattle.project_model.specs.declared.plain.PlainComp.{PlainComp}
 use Rattle.project_model.specs.declared.plain.PlainProject.{PlainProject}
-use Rattle.project_model.specs.declared.rule.Rule.TheVariants.{Root}
-use Rattle.project_model.proofs.Keeps.{KeepsComp, KeepsStreams, KeepsRanges, comps_keep, outside_passed}
+use Rattle.project_model.specs.declared.rule.Rule.TheVariants.{Root, Size, ClipDepth, Frames, FrameValue, Near, Nesting}
+use Rattle.project_model.proofs.First.{place_first}
+use Rattle.project_model.proofs.Keeps.{KeepsComp, KeepsStreams, KeepsRanges, comps_keep, outside_passed, among, picture_size, near}
+use Rattle.project_model.proofs.Least.{rules_kept}
+use Rattle.project_model.proofs.Nesting.{or_either}
+use Rattle.project_model.proofs.Ranked.{reach_absent}
 
 -- ---- parts of lists
 
@@ -49,7 +60,16 @@ unmapped P f [] all = All-nil _
 unmapped P f (x ∷ xs) all =
     All-cons (λ y. P (f y)) x xs (All-head P (f x) (map f xs) all) (unmapped P f xs (All-tail P (f x) (map f xs) all))
 
+absent_past : {A : Type 0} (list : List A) (i : ℕ) → slice_get list i ≡ None → length list ≤ i
+absent_past [] i e = omega arith
+absent_past (a ∷ list) zero e = cc
+absent_past (a ∷ list) (suc i) e = let behind = absent_past list i e in omega (arith, behind)
+
 -- ---- times
+
+-- those of the clips
+abbrev clip_times : PlainProject → List Time
+clip_times project = map (λ (clip : ClipUse). clip.frame) project.clips
 
 -- a scale that may be written over the base
 pub record IsScaled (base : ℕ) (time : Time) : Type 0 where
@@ -99,8 +119,8 @@ layer_ready base layer some formed mode matte scaled near rising ranges =
       y = keys_ready base least_position greatest_position layer.y some formed.y (right P (points ++ o ++ x) y all) rising.y_rises ranges.y;
     }
 
-comp_ready : (base depth : ℕ) (comp : PlainComp) → 1 ≤ base → IsFormedComp comp → All (IsScaled base) (comp_times comp) → KeepsComp depth comp → IsReadyComp base comp
-comp_ready base depth comp some formed scaled keeps =
+comp_ready : (base depth clips comps : ℕ) (comp : PlainComp) → 1 ≤ base → IsFormedComp comp → All (IsScaled base) (comp_times comp) → KeepsComp depth clips comps comp → IsReadyComp base comp
+comp_ready base depth clips comps comp some formed scaled keeps =
     let frame = All-head (IsScaled base) comp.frame (flat_map layer_times comp.layers) scaled in
     let rest = pieces (IsScaled base) layer_times comp.layers (All-tail (IsScaled base) comp.frame (flat_map layer_times comp.layers) scaled) in
     record {
@@ -121,17 +141,76 @@ some_base project base formed is = rw is ((is_base (times_of project) formed.sca
 
 pub comps_ready : (project : PlainProject) (base : ℕ) → IsFormed project → breach_of project ≡ None → base ≡ common_base (times_of project) → All (IsReadyComp base) project.comps
 comps_ready project base formed kept is k d within =
-    comp_ready base project.depth (slice_index_or project.comps k d) (some_base project base formed is) (formed.comps k d within)
-    (pieces (IsScaled base) comp_times project.comps (all_scaled project base formed is) k d within)
+    comp_ready base project.depth (length project.clips) (length project.comps) (slice_index_or project.comps k d) (some_base project base formed is) (formed.comps k d within)
+    (pieces (IsScaled base) comp_times project.comps (right (IsScaled base) (clip_times project) (flat_map comp_times project.comps) (all_scaled project base formed is)) k d within)
     (comps_keep project kept k d within)
+
+-- ---- clips
+
+-- no scale of a clip's frame is 0
+pub scales_of_clips : (project : PlainProject) → IsFormed project → All (λ (clip : ClipUse). 1 ≤ clip.frame.scale) project.clips
+scales_of_clips project formed =
+    unmapped (λ (time : Time). 1 ≤ time.scale) (λ (clip : ClipUse). clip.frame) project.clips
+    (left (λ (time : Time). 1 ≤ time.scale) (clip_times project) (flat_map comp_times project.comps) formed.scaled)
+
+-- each clip passes a test that breaks no rule
+clips_pass : (project : PlainProject) (test : ClipUse → Bool) → not (list_all test project.clips) ≡ false → All (λ (clip : ClipUse). test clip ≡ true) project.clips
+clips_pass project test e = AllPass-from_list_all test project.clips (not-false (list_all test project.clips) e)
+
+some_depth : (depth : ℕ) → is_bit_depth depth ≡ true → (depth ≡ 8) ⊎ (depth ≡ 16)
+some_depth depth e =
+    elim (or_either (eqb depth 8) (eqb depth 16) e) [ inl eight ↦ inl (eqb-true depth 8 eight) | inr sixteen ↦ inr (eqb-true depth 16 sixteen) ]
+
+some_value : (value : ℤ) → int_le (pos 1) value ≡ true → pos 1 ≤ℤ value
+some_value value e = omega (arith, ints, e)
+
+clip_sound : (base : ℕ) (clip : ClipUse) → IsScaled base clip.frame → IsPictureSize clip.width clip.height → is_bit_depth clip.depth ≡ true → is_among 1 most_frames clip.frames ≡ true → int_le (pos 1) clip.frame.value ≡ true → IsNear clip.frame → IsSoundClip base clip
+clip_sound base clip scaled size depth frames value close =
+    let some = among 1 most_frames clip.frames frames in
+    record {
+      readable = record {
+        width = (size.some_width, size.width_bound);
+        height = (size.some_height, size.height_bound);
+        area = size.area_bound;
+        depth = some_depth clip.depth depth;
+        frames = some;
+        value = some_value clip.frame.value value;
+        scale = scaled.scaled;
+      };
+      frame = record { scaled = scaled.scaled; divides = scaled.divides; near = close };
+    }
+
+clips_sound : (project : PlainProject) (base : ℕ) → IsFormed project → breach_of project ≡ None → base ≡ common_base (times_of project) → All (IsSoundClip base) project.clips
+clips_sound project base formed kept is k d within =
+    let scaled = unmapped (IsScaled base) (λ (clip : ClipUse). clip.frame) project.clips (left (IsScaled base) (clip_times project) (flat_map comp_times project.comps) (all_scaled project base formed is)) in
+    let here : ClipUse = slice_index_or project.clips k d in
+    clip_sound base here (scaled k d within)
+    (picture_size here.width here.height (clips_pass project (λ clip. is_size clip.width clip.height) (outside_passed project kept Size) k d within))
+    (clips_pass project (λ clip. is_bit_depth clip.depth) (outside_passed project kept ClipDepth) k d within)
+    (clips_pass project (λ clip. is_among 1 most_frames clip.frames) (outside_passed project kept Frames) k d within)
+    (clips_pass project (λ clip. int_le (pos 1) clip.frame.value) (outside_passed project kept FrameValue) k d within)
+    (near here.frame (clips_pass project (λ clip. is_near clip.frame) (outside_passed project kept Near) k d within))
+
+-- ---- nesting
+
+-- no composition reaches itself where rule 30 is kept
+acyclic : (project : PlainProject) → breach_of project ≡ None → IsAcyclic project
+acyclic project kept i = by (slice_get project.comps i) refl
+  where
+    unbroken : (other : Place) → ¬ IsBrokenAt project Nesting other
+    unbroken = place_first.none project Nesting ((rules_kept project).0 kept Nesting)
+
+    by : (o : Option PlainComp) → slice_get project.comps i ≡ o → reaches project i i ≡ false
+    by None e = reach_absent (length project.comps) project i i (absent_past project.comps i e)
+    by (Some comp) e = false_from_ne_true (reaches project i i) (λ loop. unbroken (place.Comp i) (comp, e, loop))
 
 -- ---- what was made
 
 stream_made : (base : ℕ) (least most : ℤ) (curve : Curve) → curve.base ≡ base → AreReady base least most curve.keys → IsMadeWith base least most curve
 stream_made base least most curve is ready = record { base_is = is; some = ready.some; within = ready.within }
 
-layer_sound : (depth base : ℕ) (layer : Layer) → IsSoundItem (most_of depth) layer.source → IsReadyLayer base (plain_layer layer) → IsBasedLayer base layer → IsSoundLayer depth base layer
-layer_sound depth base layer source ready based = record {
+layer_sound : (depth base clips comps : ℕ) (layer : Layer) → IsSoundItem (most_of depth) clips comps layer.source → IsReadyLayer base (plain_layer layer) → IsBasedLayer base layer → IsSoundLayer depth base clips comps layer
+layer_sound depth base clips comps layer source ready based = record {
   source = source;
   start = ready.start;
   in_point = ready.in_point;
@@ -143,9 +222,9 @@ layer_sound depth base layer source ready based = record {
   };
 }
 
-comp_sound : (depth base : ℕ) (comp : Comp) → KeepsComp depth (plain_comp comp) → IsReadyComp base (plain_comp comp) → IsBasedComp base comp → IsSoundComp depth base comp
-comp_sound depth base comp keeps ready based =
-    let sources = unmapped (λ (layer : PlainLayer). IsSoundItem (most_of depth) layer.source) plain_layer comp.layers keeps.sources in
+comp_sound : (depth base clips comps : ℕ) (comp : Comp) → KeepsComp depth clips comps (plain_comp comp) → IsReadyComp base (plain_comp comp) → IsBasedComp base comp → IsSoundComp depth base clips comps comp
+comp_sound depth base clips comps comp keeps ready based =
+    let sources = unmapped (λ (layer : PlainLayer). IsSoundItem (most_of depth) clips comps layer.source) plain_layer comp.layers keeps.sources in
     let layers = unmapped (IsReadyLayer base) plain_layer comp.layers ready.layers in
     record {
       size = keeps.size;
@@ -153,14 +232,18 @@ comp_sound depth base comp keeps ready based =
       few_frames = keeps.few_frames;
       frame = ready.frame;
       some_time = keeps.some_time;
-      layers = λ k d within. layer_sound depth base (slice_index_or comp.layers k d) (sources k d within) (layers k d within) (based k d within);
+      layers = λ k d within. layer_sound depth base clips comps (slice_index_or comp.layers k d) (sources k d within) (layers k d within) (based k d within);
     }
 
 pub project_sound : (project : Project) → IsFormed (plain_of project) → breach_of (plain_of project) ≡ None → project.base.ticks ≡ common_base (times_of (plain_of project)) → project.base.ticks ≤ greatest_base → All (IsBasedComp project.base.ticks) project.comps → IsSound project
 project_sound project formed kept is small made =
     let plain : PlainProject = plain_of project in
     let base : ℕ = project.base.ticks in
-    let keeps = unmapped (KeepsComp project.depth) plain_comp project.comps (comps_keep plain kept) in
+    let clips : ℕ = length project.clips in
+    let comps : ℕ = length project.comps in
+    let keeps : All (λ (comp : Comp). KeepsComp project.depth clips comps (plain_comp comp)) project.comps =
+    subst (λ (n : ℕ). All (λ (comp : Comp). KeepsComp project.depth clips n (plain_comp comp)) project.comps) (length-map project.comps plain_comp)
+    (unmapped (KeepsComp project.depth clips (length plain.comps)) plain_comp project.comps (comps_keep plain kept)) in
     let ready = unmapped (IsReadyComp base) plain_comp project.comps (comps_ready plain base formed kept is) in
     let root = ltb-true project.root (length plain.comps) (not-false _ (outside_passed plain kept Root)) in
     record {
@@ -168,7 +251,9 @@ project_sound project formed kept is small made =
       some_base = some_base plain base formed is;
       base_bound = small;
       root = omega (arith, root, length-map project.comps plain_comp);
-      comps = λ k d within. comp_sound project.depth base (slice_index_or project.comps k d) (keeps k d within) (ready k d within) (made k d within);
+      clips = clips_sound plain base formed kept is;
+      nesting = acyclic plain kept;
+      comps = λ k d within. comp_sound project.depth base clips comps (slice_index_or project.comps k d) (keeps k d within) (ready k d within) (made k d within);
     }
 
 -- the same, of the parts that it was made of

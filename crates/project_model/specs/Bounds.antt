@@ -2,7 +2,7 @@
 use Rattle.std.specs.Prelude.{ℕ, ◌*◌, ◌==◌, ◌&&◌, ◌||◌, nat_le, Bool, ℤ, int_le, Option, Some, None, if◌then◌else◌}
 use Rattle.rational_time.specs.declared.time.Time.{Time}
 use Rattle.rational_time.specs.declared.time.TheConstants.{GREATEST_BASE}
-use Rattle.project_model.specs.declared.bounds.TheConstants.{MOST_COMPS, MOST_LAYERS, MOST_LAYERS_IN_ALL, MOST_KEYS, GREATEST_SIDE, GREATEST_AREA, MOST_FRAMES, GREATEST_OF_8_BITS, GREATEST_OF_16_BITS, FULL_OPACITY, LEAST_POSITION, GREATEST_POSITION}
+use Rattle.project_model.specs.declared.bounds.TheConstants.{MOST_CLIPS, MOST_CLIP_BYTES, MOST_NAME_BYTES, CLIP_HEADER_LENGTH, GREATEST_RANK, MOST_COMPS, MOST_LAYERS, MOST_LAYERS_IN_ALL, MOST_KEYS, GREATEST_SIDE, GREATEST_AREA, MOST_FRAMES, GREATEST_OF_8_BITS, GREATEST_OF_16_BITS, FULL_OPACITY, LEAST_POSITION, GREATEST_POSITION}
 
 abbrev pub is_bit_depth : ℕ → Bool
 is_bit_depth depth = (depth == 8) || (depth == 16)
@@ -10,6 +10,23 @@ is_bit_depth depth = (depth == 8) || (depth == 16)
 -- the greatest value of a channel
 abbrev pub most_of : ℕ → ℕ
 most_of depth = if depth == 8 then GREATEST_OF_8_BITS else GREATEST_OF_16_BITS
+
+abbrev pub most_clips : ℕ
+most_clips = MOST_CLIPS
+
+-- the most bytes that the clips declare together
+abbrev pub most_clip_bytes : ℕ
+most_clip_bytes = MOST_CLIP_BYTES
+
+abbrev pub most_name_bytes : ℕ
+most_name_bytes = MOST_NAME_BYTES
+
+-- how many bytes the header of a clip's file has
+abbrev pub header_length : ℕ
+header_length = CLIP_HEADER_LENGTH
+
+abbrev pub greatest_rank : ℕ
+greatest_rank = GREATEST_RANK
 
 abbrev pub most_comps : ℕ
 most_comps = MOST_COMPS

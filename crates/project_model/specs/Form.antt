@@ -3,7 +3,7 @@ use Rattle.std.specs.Prelude.{ℕ, ◌≤◌, ◌+◌, ◌&&◌, Bool, nat_le, L
 use Rattle.std.specs.List.{list_all}
 use Rattle.rational_time.specs.declared.time.Time.{Time}
 use Rattle.param_stream.specs.declared.key.Keyframe.{Keyframe}
-use Rattle.project_model.specs.Bounds.{is_bit_depth, is_among, most_comps, most_layers, most_layers_in_all, most_keys}
+use Rattle.project_model.specs.Bounds.{is_bit_depth, is_among, most_clips, most_comps, most_layers, most_layers_in_all, most_keys}
 use Rattle.project_model.specs.Times.{times_of}
 use Rattle.project_model.specs.declared.plain.PlainLayer.{PlainLayer}
 use Rattle.project_model.specs.declared.plain.PlainComp.{PlainComp}
@@ -29,6 +29,7 @@ plain_layer_count (comp ∷ comps) = length comp.layers + plain_layer_count comp
 
 pub record IsFormed (project : PlainProject) : Type 0 where
   pub bits : IsTrue (is_bit_depth project.depth)
+  pub few_clips : length project.clips ≤ most_clips
   pub some_comp : 1 ≤ length project.comps
   pub few_comps : length project.comps ≤ most_comps
   pub few_layers : plain_layer_count project.comps ≤ most_layers_in_all
@@ -52,6 +53,7 @@ is_scaled time = nat_le 1 time.scale
 abbrev pub is_formed : PlainProject → Bool
 is_formed project =
     is_bit_depth project.depth
+    && nat_le (length project.clips) most_clips
     && is_among 1 most_comps (length project.comps)
     && nat_le (plain_layer_count project.comps) most_layers_in_all
     && list_all is_formed_comp project.comps

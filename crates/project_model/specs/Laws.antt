@@ -1,7 +1,7 @@
 -- Laws of the first broken rule and of its first place, over the definitions alone.
 use Rattle.std.specs.Prelude.{◌≡◌, ◌↔◌, ◌<◌, ◌⊎◌, Some, None, IsTrue, slice_get, pos, negsuc}
 use Rattle.rational_time.specs.declared.time.TheConstants.{MOST_SECONDS}
-use Rattle.project_model.specs.Bounds.{most_of, most_comps, most_layers, most_layers_in_all, most_keys, greatest_side, greatest_area, most_frames, greatest_base, full_opacity, least_position, greatest_position}
+use Rattle.project_model.specs.Bounds.{most_of, most_clips, most_clip_bytes, most_name_bytes, header_length, greatest_rank, most_comps, most_layers, most_layers_in_all, most_keys, greatest_side, greatest_area, most_frames, greatest_base, full_opacity, least_position, greatest_position}
 use Rattle.project_model.specs.Broken.{breach_of}
 use Rattle.project_model.specs.Checked.{breach_in}
 use Rattle.project_model.specs.Plain.{plain_of}
@@ -70,6 +70,7 @@ abbrev pub BoundsInNumbers : Type 0
 BoundsInNumbers =
     (most_comps ≡ 64) × (most_layers ≡ 128) × (most_layers_in_all ≡ 1024) × (most_keys ≡ 4096)
     × (greatest_side ≡ 4096) × (greatest_area ≡ 8847360) × (most_frames ≡ 65536)
-    × (MOST_SECONDS ≡ 36000) × (greatest_base ≡ 2147483647)
+    × (most_clips ≡ 64) × (most_clip_bytes ≡ 2147483648) × (most_name_bytes ≡ 64) × (header_length ≡ 29)
+    × (greatest_rank ≡ 256) × (MOST_SECONDS ≡ 36000) × (greatest_base ≡ 2147483647)
     × (most_of 8 ≡ 255) × (most_of 16 ≡ 32768)
     × (full_opacity ≡ pos 10000) × (least_position ≡ negsuc 32767) × (greatest_position ≡ pos 32767)

@@ -1,11 +1,14 @@
 pub mod Bounds
 pub mod Broken
 pub mod Checked
+pub mod Clip
 pub mod Constant
 pub mod Count
 pub mod Form
 pub mod Given
+pub mod Known
 pub mod Laws
+pub mod Nesting
 pub mod Places
 pub mod Plain
 pub mod Ready

@@ -30,4 +30,9 @@ plain_comp comp = record {
 }
 
 abbrev pub plain_of : Project → PlainProject
-plain_of project = record { depth = project.depth; root = project.root; comps = map plain_comp project.comps }
+plain_of project = record {
+  depth = project.depth;
+  root = project.root;
+  clips = project.clips;
+  comps = map plain_comp project.comps;
+}

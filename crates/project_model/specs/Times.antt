@@ -18,4 +18,4 @@ abbrev pub comp_times : PlainComp → List Time
 comp_times comp = comp.frame ∷ flat_map layer_times comp.layers
 
 abbrev pub times_of : PlainProject → List Time
-times_of project = flat_map comp_times project.comps
+times_of project = map (λ clip. clip.frame) project.clips ++ flat_map comp_times project.comps

@@ -10,6 +10,7 @@ abbrev pub two_pixel_project : PlainProject
 two_pixel_project = record {
   depth = 8;
   root = 0;
+  clips = [];
   comps = record {
     width = 2;
     height = 1;

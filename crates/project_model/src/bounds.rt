@@ -1,7 +1,22 @@
 //! The bounds of a project's parts, this project's own, and the numbers that keep them.
 
 ghost use Rattle.std.specs.Prelude.{◌≡◌};
-ghost use Rattle.project_model.specs.Bounds.{most_of, is_among, is_size, is_colour, is_between};
+ghost use Rattle.project_model.specs.Bounds.{is_bit_depth, most_of, is_among, is_size, is_colour, is_between};
+
+/// The most clips of a project.
+pub const MOST_CLIPS: u32 = 64;
+
+/// The most bytes that a project's clips declare together, headers included.
+pub const MOST_CLIP_BYTES: u64 = 2147483648;
+
+/// The most bytes of a clip's name.
+pub const MOST_NAME_BYTES: u32 = 64;
+
+/// The bytes of the header of a clip's file.
+pub const CLIP_HEADER_LENGTH: u32 = 29;
+
+/// The greatest rank of a source.
+pub const GREATEST_RANK: u32 = 256;
 
 /// The most compositions of a project.
 pub const MOST_COMPS: u32 = 64;
@@ -15,13 +30,13 @@ pub const MOST_LAYERS_IN_ALL: u32 = 1024;
 /// The most keyframes of a stream.
 pub const MOST_KEYS: u32 = 4096;
 
-/// The greatest width and height of a composition, and of a solid.
+/// The greatest width and height of a composition, of a clip and of a solid.
 pub const GREATEST_SIDE: u32 = 4096;
 
 /// The greatest product of the two.
 pub const GREATEST_AREA: u32 = 8847360;
 
-/// The most frames of a composition.
+/// The most frames of a composition, and of a clip.
 pub const MOST_FRAMES: u32 = 65536;
 
 /// The greatest value of a channel of 8 bits.
@@ -55,6 +70,13 @@ pub fn is_among(low: u32, high: u32, n: u32) -> bool
     ensures { result ≡ is_among low high n }
 {
     low <= n && n <= high
+}
+
+/// Whether a channel may have so many bits.
+pub fn is_bit_depth(depth: u32) -> bool
+    ensures { result ≡ is_bit_depth depth }
+{
+    depth == 8 || depth == 16
 }
 
 /// Whether a picture may have these sides.

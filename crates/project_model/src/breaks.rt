@@ -1,24 +1,33 @@
 //! What breaks a rule, at each kind of place.
 
-ghost use Rattle.std.specs.Prelude.{◌≡◌, ℕ, pos, ◌*ℤ◌, option_to_list};
+ghost use Rattle.std.specs.Prelude.{◌≡◌, ◌*◌, pos, ◌*ℤ◌, int_lt, option_to_list};
 ghost use Rattle.std.specs.List.{list_all};
 ghost use Rattle.rational_time.specs.Times.{is_near};
 ghost use Rattle.project_model.specs.Times.{key_times, layer_times};
-ghost use Rattle.project_model.specs.Rules.{breaks_comp, breaks_layer, is_solid, has_matte, has_matte_layer, is_within_length, begins_in_time, all_between, is_too_long};
-ghost use Rattle.project_model.specs.declared.plain.PlainProject.{PlainProject as Plain};
+ghost use Rattle.project_model.specs.Rules.{breaks_comp, breaks_layer, is_solid, is_clip_of, is_comp_of, has_matte, has_matte_layer, is_within_length, begins_in_time, all_between, is_too_long};
+ghost use Rattle.project_model.specs.Form.{IsFormed};
+ghost use Rattle.project_model.specs.Known.{IsKnown};
 
 use crate::bounds::{
-    FULL_OPACITY, GREATEST_POSITION, LEAST_POSITION, MOST_FRAMES, is_among, is_between, is_colour,
-    is_size, most_of,
+    FULL_OPACITY, GREATEST_POSITION, GREATEST_RANK, LEAST_POSITION, MOST_FRAMES, is_among,
+    is_between, is_colour, is_size, most_of,
 };
+use crate::graph::Nesting;
 use crate::{Item, PlainComp, PlainLayer, PlainProject, Rule};
 use param_stream::{Keyframe, rises};
 use rational_time::{MOST_SECONDS, Time, comes_before, is_near};
 use track_matte::Matte;
 
-/// Whether the rule is broken in the composition outside its layers.
-pub fn breaks_comp(rule: Rule, comp: &PlainComp) -> bool
-    ensures { (project : Plain) (index : ℕ) → result ≡ breaks_comp project rule index comp.now }
+/// Whether the rule is broken in the composition outside its layers, which has this index.
+pub fn breaks_comp(
+    project: &PlainProject,
+    nesting: &Nesting,
+    rule: Rule,
+    index: usize,
+    comp: &PlainComp,
+) -> bool
+    requires { IsKnown project.now nesting.now.loops.items nesting.now.ranks.items }
+    ensures { result ≡ breaks_comp project.now rule index comp.now }
 {
     match rule {
         Rule::Size => !is_size(comp.width, comp.height),
@@ -26,6 +35,7 @@ pub fn breaks_comp(rule: Rule, comp: &PlainComp) -> bool
         Rule::FrameValue => comp.frame.value < 1,
         Rule::Near => !is_near(comp.frame),
         Rule::Length => is_too_long(comp),
+        Rule::Nesting => nesting.is_loop(index),
         _ => false,
     }
 }
@@ -33,16 +43,21 @@ pub fn breaks_comp(rule: Rule, comp: &PlainComp) -> bool
 /// Whether the rule is broken in the layer of the composition, which has this index in it.
 pub fn breaks_layer(
     project: &PlainProject,
+    nesting: &Nesting,
     rule: Rule,
     comp: &PlainComp,
     index: usize,
     layer: &PlainLayer,
 ) -> bool
+    requires known { IsKnown project.now nesting.now.loops.items nesting.now.ranks.items }
+    requires formed { IsFormed project.now }
     ensures { result ≡ breaks_layer project.now rule comp.now index layer.now }
 {
     match rule {
         Rule::Near => !is_near_layer(layer),
         Rule::Solid => !is_solid(most_of(project.depth), layer.source),
+        Rule::ClipSource => !is_clip_of(project.clips.as_slice().len(), layer.source),
+        Rule::CompSource => !is_comp_of(project.comps.as_slice().len(), layer.source),
         Rule::Mode => layer.mode.is_none(),
         Rule::Matte => layer.matte.is_none(),
         Rule::MatteLayer => has_matte(layer) && !has_matte_layer(comp, index),
@@ -57,6 +72,7 @@ pub fn breaks_layer(
                 && all_between(LEAST_POSITION, GREATEST_POSITION, layer.x.as_slice())
                 && all_between(LEAST_POSITION, GREATEST_POSITION, layer.y.as_slice()))
         }
+        Rule::Rank => nesting.source_rank(layer.source) > GREATEST_RANK,
         _ => false,
     }
 }
@@ -65,7 +81,14 @@ pub fn breaks_layer(
 fn is_too_long(comp: &PlainComp) -> bool
     ensures { result ≡ is_too_long comp.now }
 {
-    i64::from(MOST_SECONDS) * i64::from(comp.frame.scale) < product(comp.frame.value, comp.frames)
+    lasts_too_long(comp.frame, comp.frames)
+}
+
+/// Whether so many frames of this length last longer than a time may be from zero.
+pub fn lasts_too_long(frame: Time, frames: u32) -> bool
+    ensures { result ≡ int_lt (pos (MOST_SECONDS * frame.scale)) (frame.value *ℤ pos frames) }
+{
+    i64::from(MOST_SECONDS) * i64::from(frame.scale) < product(frame.value, frames)
 }
 
 // The product of the two.
@@ -117,6 +140,27 @@ fn is_solid(most: u32, source: Item) -> bool
             g,
             b,
         } => { is_size(width, height) && is_colour(most, a, r, g, b) }
+        _ => true,
+    }
+}
+
+// Whether a clip is one of so many, by its index.
+fn is_clip_of(count: usize, source: Item) -> bool
+    ensures { result ≡ is_clip_of count source }
+{
+    match source {
+        Item::Clip(index) => (index as usize) < count,
+        _ => true,
+    }
+}
+
+// Whether a nested composition is.
+fn is_comp_of(count: usize, source: Item) -> bool
+    ensures { result ≡ is_comp_of count source }
+{
+    match source {
+        Item::Comp(index) => (index as usize) < count,
+        _ => true,
     }
 }
 

@@ -5,6 +5,7 @@ ghost use Rattle.project_model.specs.Form.{IsFormed};
 ghost use Rattle.project_model.specs.Plain.{plain_of};
 ghost use Rattle.project_model.specs.Sound.{IsSound};
 
+use crate::graph::nesting_of;
 use crate::join::project_of;
 use crate::passing::error_of;
 use crate::search::first_breach;
@@ -25,8 +26,11 @@ impl Project {
         let Ok(times) = times_of(alloc, &plain) else {
             return Err(CheckError::Memory);
         };
+        let Ok(nesting) = nesting_of(alloc, &plain) else {
+            return Err(CheckError::Memory);
+        };
         let base = common_base(&times);
-        if let Some(breach) = first_breach(&plain, base.is_some()) {
+        if let Some(breach) = first_breach(&plain, base.is_some(), &nesting) {
             return Err(error_of(breach));
         }
         let Ok(project) = project_of(alloc, base.unwrap(), plain) else {

@@ -1,12 +1,12 @@
 //! What a project says, in plain parts.
 
-ghost use Rattle.std.specs.Prelude.{◌≡◌, ◌≤◌, length, IfOk};
+ghost use Rattle.std.specs.Prelude.{◌≡◌, ◌≤◌, length, map, IfOk};
 ghost use Rattle.std.specs.List.{All};
 ghost use Rattle.project_model.specs.Form.{IsFormed, IsFormedComp, IsFormedLayer};
 ghost use Rattle.project_model.specs.Plain.{plain_layer, plain_comp, plain_of};
 ghost use Rattle.project_model.specs.Times.{layer_times, comp_times};
 
-use crate::{Collection, Comp, Layer, PlainComp, PlainLayer, PlainProject, Project};
+use crate::{ClipUse, Collection, Comp, Layer, PlainComp, PlainLayer, PlainProject, Project};
 use host_io::Memory;
 use param_stream::{Keyframe, Stream};
 use std::alloc::Global;
@@ -16,15 +16,38 @@ pub fn plain_of(alloc: Global, project: &Project) -> Result<PlainProject, Memory
     ensures plain { IfOk result (λ plain. plain ≡ plain_of project.now) }
     ensures formed { IfOk result IsFormed }
 {
-    let mut comps = Vec::new(alloc);
-    for comp in project.comps.as_slice() {
-        comps.push(plain_comp(alloc, comp)?)?;
-    }
+    let clips = copied_clips(alloc, project.clips.as_slice())?;
+    let comps = plain_comps(alloc, project.comps.as_slice())?;
     Ok(PlainProject {
         depth: u32::from(project.depth),
         root: project.root,
+        clips: Collection::from_vec(clips),
         comps: Collection::from_vec(comps),
     })
+}
+
+// The same clips.
+fn copied_clips(alloc: Global, clips: &[ClipUse]) -> Result<Vec<ClipUse>, Memory>
+    ensures { IfOk result (λ copies. copies.items ≡ clips.now) }
+{
+    let mut copies = Vec::new(alloc);
+    for clip in clips {
+        copies.push(clip.try_clone(alloc)?)?;
+    }
+    Ok(copies)
+}
+
+// The plain parts of the compositions.
+fn plain_comps(alloc: Global, comps: &[Comp]) -> Result<Vec<PlainComp>, Memory>
+    ensures plain { IfOk result (λ plain. plain.items ≡ map plain_comp comps.now) }
+    ensures formed { IfOk result (λ plain. All IsFormedComp plain.items) }
+    ensures scaled { IfOk result (λ plain. All (λ comp. All (λ time. 1 ≤ time.scale) (comp_times comp)) plain.items) }
+{
+    let mut plain = Vec::new(alloc);
+    for comp in comps {
+        plain.push(plain_comp(alloc, comp)?)?;
+    }
+    Ok(plain)
 }
 
 // Those of the composition.

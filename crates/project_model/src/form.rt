@@ -1,13 +1,15 @@
 //! Whether a project in plain parts has the form that it must have before any rule on its numbers.
 
-ghost use Rattle.std.specs.Prelude.{◌≡◌, ◌↔◌, IsTrue, nat_le, length, option_to_list};
+ghost use Rattle.std.specs.Prelude.{◌≡◌, ◌↔◌, IsTrue, nat_le, length, map, option_to_list};
 ghost use Rattle.std.specs.List.{list_all, flat_map};
-ghost use Rattle.project_model.specs.Bounds.{is_bit_depth, is_among, most_comps, most_layers_in_all};
+ghost use Rattle.project_model.specs.Bounds.{is_among, most_clips, most_comps, most_layers_in_all};
 ghost use Rattle.project_model.specs.Form.{IsFormed, is_formed, is_key_count, is_formed_layer, is_formed_comp, is_scaled, plain_layer_count};
-ghost use Rattle.project_model.specs.Times.{key_times, layer_times, comp_times};
+ghost use Rattle.project_model.specs.Times.{key_times, layer_times, comp_times, times_of};
 
-use crate::bounds::{MOST_COMPS, MOST_KEYS, MOST_LAYERS, MOST_LAYERS_IN_ALL};
-use crate::{PlainComp, PlainLayer, PlainProject};
+use crate::bounds::{
+    MOST_CLIPS, MOST_COMPS, MOST_KEYS, MOST_LAYERS, MOST_LAYERS_IN_ALL, is_bit_depth,
+};
+use crate::{ClipUse, PlainComp, PlainLayer, PlainProject};
 use param_stream::Keyframe;
 use rational_time::Time;
 
@@ -27,17 +29,18 @@ fn has_form(project: &PlainProject) -> bool
 {
     let comps = project.comps.as_slice();
     is_bit_depth(project.depth)
+        && are_few_clips(project.clips.as_slice())
         && is_comp_count(comps)
         && are_few_layers(comps)
         && are_formed_comps(comps)
-        && are_scaled_comps(comps)
+        && is_scaled_project(project)
 }
 
-// Whether a channel may have so many bits.
-fn is_bit_depth(depth: u32) -> bool
-    ensures { result ≡ is_bit_depth depth }
+// Whether there may be so many clips.
+fn are_few_clips(clips: &[ClipUse]) -> bool
+    ensures { result ≡ nat_le (length clips.now) most_clips }
 {
-    depth == 8 || depth == 16
+    clips.len() <= MOST_CLIPS as usize
 }
 
 // Whether there may be so many compositions.
@@ -100,7 +103,21 @@ fn is_key_count(keys: &[Keyframe]) -> bool
     1 <= keys.len() && keys.len() <= MOST_KEYS as usize
 }
 
-// Whether no scale of the compositions' times is 0.
+// Whether no scale of the project's times is 0.
+fn is_scaled_project(project: &PlainProject) -> bool
+    ensures { result ≡ list_all is_scaled (times_of project.now) }
+{
+    are_scaled_clips(project.clips.as_slice()) && are_scaled_comps(project.comps.as_slice())
+}
+
+// Whether none of the clips' times is.
+fn are_scaled_clips(clips: &[ClipUse]) -> bool
+    ensures { result ≡ list_all is_scaled (map (λ clip. clip.frame) clips.now) }
+{
+    clips.iter().all(|clip| 1 <= clip.frame.scale)
+}
+
+// Whether none of the compositions' times is.
 fn are_scaled_comps(comps: &[PlainComp]) -> bool
     ensures { result ≡ list_all is_scaled (flat_map comp_times comps.now) }
 {

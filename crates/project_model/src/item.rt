@@ -10,4 +10,8 @@ pub enum Item {
         g: u32,
         b: u32,
     },
+    /// The clip of this index.
+    Clip(u32),
+    /// The composition of this index, nested.
+    Comp(u32),
 }

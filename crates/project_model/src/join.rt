@@ -22,12 +22,18 @@ pub fn project_of(alloc: Global, base: TimeBase, plain: PlainProject) -> Result<
     ensures base { IfOk result (λ p. p.base ≡ base) }
     ensures based { IfOk result (λ p. All (IsBasedComp base.ticks) p.comps) }
 {
-    let PlainProject { depth, root, comps } = plain;
+    let PlainProject {
+        depth,
+        root,
+        clips,
+        comps,
+    } = plain;
     let comps = comps_of(alloc, base, comps)?;
     Ok(Project {
         depth: depth as u8,
         root,
         base,
+        clips,
         comps,
     })
 }

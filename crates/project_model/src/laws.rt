@@ -1,6 +1,7 @@
 //! Laws above the definitions: each function's contract is one, and calling it does nothing.
 
 ghost use Rattle.project_model.specs.Laws.{RulesAreKept, BreachIsFirst, SoundIsBased, PlaceIsFirst, BoundsInNumbers};
+ghost use Rattle.project_model.specs.Nesting.{PathsAreFound, RanksAreAbove, TableHasRanks};
 
 /// No rule is broken exactly where each has no place at which it is.
 pub fn rules_are_kept()
@@ -27,4 +28,20 @@ pub fn place_is_first()
 /// The bounds are these numbers.
 pub fn bounds_in_numbers()
     ensures { BoundsInNumbers }
+{}
+
+/// One composition reaches another through those that are nested exactly where there is a path, however long.
+pub fn paths_are_found()
+    ensures { PathsAreFound }
+{}
+
+/// Where no composition reaches itself, the rank of a stack is above those of its layers' sources, and that of a source above
+/// that of the stack it shows.
+pub fn ranks_are_above()
+    ensures { RanksAreAbove }
+{}
+
+/// What the table of a project's ranks says of a node.
+pub fn table_has_ranks()
+    ensures { TableHasRanks }
 {}

@@ -4,12 +4,16 @@ ghost use Rattle.rational_time.specs.Times.{common_base};
 ghost use Rattle.project_model.specs.Bounds.{greatest_base};
 ghost use Rattle.project_model.specs.Broken.{breach_of};
 ghost use Rattle.project_model.specs.Sound.{IsSound};
+ghost use Rattle.project_model.specs.Plain.{plain_of};
+ghost use Rattle.project_model.specs.Nesting.{ranks_of};
 ghost use Rattle.project_model.specs.Checked.{breach_in, is_based_on, layer_is_based, comp_of, layer_of, error_of, Refuses};
 
 use crate::copy::plain_of;
+use crate::graph::nesting_of;
+use crate::ranks::ranks_of;
 use crate::search::first_breach;
 use crate::times::times_of;
-use crate::{Breach, Comp, Layer, Place, Project};
+use crate::{Breach, Comp, Layer, Place, Project, Ranks};
 use rational_time::{Time, TimeBase, common_base};
 use std::alloc::Global;
 use thiserror::Error;
@@ -44,11 +48,12 @@ pub fn error_of(breach: Breach) -> CheckError
     }
 }
 
-/// Whether the project keeps the rules from 16 on (see [`crate::Rule`]). Rule 25 asks here that `base` is the least
+/// The ranks of the project's nodes, where it keeps the rules from 16 on (see [`crate::Rule`]). Rule 25 asks here that `base` is the least
 /// common multiple of all scales, and that each stream was made with it.
-pub fn check(alloc: Global, project: &Project) -> Result<(), CheckError>
+pub fn check(alloc: Global, project: &Project) -> Result<Ranks, CheckError>
     ensures passed { IfOk result (λ _. breach_in project.now ≡ None) }
     ensures sound { IfOk result (λ _. IsSound project.now) }
+    ensures ranked { IfOk result (λ ranks. ranks ≡ ranks_of (plain_of project.now)) }
     ensures refused { IfErr result (λ e. Refuses e (breach_in project.now)) }
 {
     let Ok(plain) = plain_of(alloc, project) else {
@@ -57,11 +62,17 @@ pub fn check(alloc: Global, project: &Project) -> Result<(), CheckError>
     let Ok(times) = times_of(alloc, &plain) else {
         return Err(CheckError::Memory);
     };
+    let Ok(nesting) = nesting_of(alloc, &plain) else {
+        return Err(CheckError::Memory);
+    };
     let is_based = keeps_base(&times, project);
-    match first_breach(&plain, is_based) {
-        Some(breach) => Err(error_of(breach)),
-        None => Ok(()),
+    if let Some(breach) = first_breach(&plain, is_based, &nesting) {
+        return Err(error_of(breach));
     }
+    let Ok(ranks) = ranks_of(alloc, &plain, nesting.ranks) else {
+        return Err(CheckError::Memory);
+    };
+    Ok(ranks)
 }
 
 // Whether the project's base is the least common multiple of the scales, which is small enough, and each of its

@@ -1,4 +1,4 @@
-use crate::{Collection, Item};
+use crate::{ClipUse, Collection, Item};
 use param_stream::Keyframe;
 use rational_time::Time;
 use track_matte::Matte;
@@ -10,6 +10,7 @@ use transfer_mode::Mode;
 pub struct PlainProject {
     pub depth: u32,
     pub root: u32,
+    pub clips: Collection<ClipUse>,
     pub comps: Collection<PlainComp>,
 }
 

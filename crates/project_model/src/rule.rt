@@ -6,20 +6,35 @@ ghost use Rattle.project_model.specs.Rules.{number_of};
 pub enum Rule {
     /// 16: `root` names a composition.
     Root,
-    /// 19: widths and heights are from 1 to 4,096, with a product of at most 8,847,360.
+    /// 17: a clip's name has 1 to 64 of the characters `a` to `z`, `A` to `Z`, `0` to `9`, `_`, `-` and `.`, and does not begin
+    /// with `.`.
+    ClipName,
+    /// 18: the names of clips differ.
+    ClipNames,
+    /// 19: widths and heights of clips and compositions are from 1 to 4,096, with a product of at most 8,847,360.
     Size,
-    /// 21: a composition has from 1 to 65,536 frames.
+    /// 20: a clip's depth is 8 or 16.
+    ClipDepth,
+    /// 21: a clip and a composition have from 1 to 65,536 frames.
     Frames,
     /// 22: the value of each frame's length is at least 1.
     FrameValue,
     /// 23: every time is at most 36,000 seconds from zero.
     Near,
-    /// 24: all frames of a composition together last at most 36,000 seconds.
+    /// 24: all frames of a clip or composition together last at most 36,000 seconds.
     Length,
     /// 25: the least common multiple of all scales is at most 2,147,483,647.
     Base,
+    /// 26: the clips' files have together at most 2,147,483,648 bytes, as they are declared.
+    ClipBytes,
     /// 27: a solid has a width and a height as a composition, an alpha up to the depth's greatest value, and colours up to alpha.
     Solid,
+    /// 28: a layer of a clip names a clip.
+    ClipSource,
+    /// 29: a layer of a composition names a composition.
+    CompSource,
+    /// 30: no composition reaches itself through the layers that nest compositions.
+    Nesting,
     /// 31: a layer's mode is one of the 21.
     Mode,
     /// 32: a layer's matte is one of the five.
@@ -32,24 +47,35 @@ pub enum Rule {
     Rising,
     /// 36: opacity is from 0 to 10,000, and positions from -32,768 to 32,767.
     Range,
+    /// 40: the rank of a layer's source is at most 256: 0 for a solid or a clip, else one more than that of the composition's
+    /// stack, which is one more than the greatest rank of its layers' sources, or 1 where it has none.
+    Rank,
 }
 
 /// All rules, in the order of their numbers.
-pub const RULES: [Rule; 14] = [
+pub const RULES: [Rule; 22] = [
     Rule::Root,
+    Rule::ClipName,
+    Rule::ClipNames,
     Rule::Size,
+    Rule::ClipDepth,
     Rule::Frames,
     Rule::FrameValue,
     Rule::Near,
     Rule::Length,
     Rule::Base,
+    Rule::ClipBytes,
     Rule::Solid,
+    Rule::ClipSource,
+    Rule::CompSource,
+    Rule::Nesting,
     Rule::Mode,
     Rule::Matte,
     Rule::MatteLayer,
     Rule::Span,
     Rule::Rising,
     Rule::Range,
+    Rule::Rank,
 ];
 
 impl Rule {
@@ -59,19 +85,27 @@ impl Rule {
     {
         match self {
             Rule::Root => 16,
+            Rule::ClipName => 17,
+            Rule::ClipNames => 18,
             Rule::Size => 19,
+            Rule::ClipDepth => 20,
             Rule::Frames => 21,
             Rule::FrameValue => 22,
             Rule::Near => 23,
             Rule::Length => 24,
             Rule::Base => 25,
+            Rule::ClipBytes => 26,
             Rule::Solid => 27,
+            Rule::ClipSource => 28,
+            Rule::CompSource => 29,
+            Rule::Nesting => 30,
             Rule::Mode => 31,
             Rule::Matte => 32,
             Rule::MatteLayer => 33,
             Rule::Span => 34,
             Rule::Rising => 35,
             Rule::Range => 36,
+            Rule::Rank => 40,
         }
     }
 }

@@ -1,31 +1,41 @@
 //! The broken rule with the least number, at its first place.
 
 ghost use Rattle.std.specs.Prelude.{◌≡◌, ◌<◌, ◌≤◌, length};
-ghost use Rattle.project_model.specs.Bounds.{most_comps, most_layers};
+ghost use Rattle.project_model.specs.Bounds.{most_layers};
 ghost use Rattle.project_model.specs.Broken.{first_broken};
 ghost use Rattle.project_model.specs.Form.{IsFormed, IsFormedComp};
+ghost use Rattle.project_model.specs.Known.{IsKnown};
 ghost use Rattle.project_model.specs.Given.{breaks_given, place_given, breach_given};
 ghost use Rattle.project_model.specs.Places.{first_from, first_in_comp};
 ghost use Rattle.project_model.specs.Rules.{number_of, breaks_comp as breaks_comp_of, breaks_layer as breaks_layer_of};
 
 use crate::breaks::{breaks_comp, breaks_layer};
+use crate::clip_rules::break_clips;
+use crate::graph::Nesting;
 use crate::{Breach, Place, PlainComp, PlainProject, RULES, Rule};
 
 /// The first broken rule, where it is known whether rule 25 is kept.
-pub fn first_breach(project: &PlainProject, is_based: bool) -> Option<Breach>
-    requires { IsFormed project.now }
+pub fn first_breach(project: &PlainProject, is_based: bool, nesting: &Nesting) -> Option<Breach>
+    requires formed { IsFormed project.now }
+    requires known { IsKnown project.now nesting.now.loops.items nesting.now.ranks.items }
     ensures { result ≡ breach_given project.now is_based }
 {
-    first_among(project, is_based, &RULES)
+    first_among(project, is_based, nesting, &RULES)
 }
 
 // The first of these rules that is broken.
-fn first_among(project: &PlainProject, is_based: bool, rules: &[Rule]) -> Option<Breach>
-    requires { IsFormed project.now }
+fn first_among(
+    project: &PlainProject,
+    is_based: bool,
+    nesting: &Nesting,
+    rules: &[Rule],
+) -> Option<Breach>
+    requires formed { IsFormed project.now }
+    requires known { IsKnown project.now nesting.now.loops.items nesting.now.ranks.items }
     ensures { result ≡ first_broken number_of (place_given project.now is_based) rules.now }
 {
     for rule in rules {
-        if let Some(place) = first_place(project, *rule, is_based) {
+        if let Some(place) = first_place(project, *rule, is_based, nesting) {
             return Some(Breach {
                 number: rule.number(),
                 place,
@@ -36,15 +46,21 @@ fn first_among(project: &PlainProject, is_based: bool, rules: &[Rule]) -> Option
 }
 
 // The first place where the rule is broken.
-fn first_place(project: &PlainProject, rule: Rule, is_based: bool) -> Option<Place>
-    requires { IsFormed project.now }
+fn first_place(
+    project: &PlainProject,
+    rule: Rule,
+    is_based: bool,
+    nesting: &Nesting,
+) -> Option<Place>
+    requires formed { IsFormed project.now }
+    requires known { IsKnown project.now nesting.now.loops.items nesting.now.ranks.items }
     ensures { result ≡ place_given project.now is_based rule }
 {
     if breaks_project(project, rule, is_based) {
         return Some(Place::Project);
     }
     for (index, comp) in project.comps.as_slice().iter().enumerate() {
-        let place = place_in_comp(project, rule, index as u32, comp);
+        let place = place_in_comp(project, nesting, rule, index as u32, comp);
         if place.is_some() {
             return place;
         }
@@ -54,38 +70,53 @@ fn first_place(project: &PlainProject, rule: Rule, is_based: bool) -> Option<Pla
 
 // Whether the rule is broken outside the compositions.
 fn breaks_project(project: &PlainProject, rule: Rule, is_based: bool) -> bool
-    requires { length project.now.comps ≤ most_comps }
+    requires { IsFormed project.now }
     ensures { result ≡ breaks_given project.now is_based rule }
 {
     match rule {
         Rule::Root => project.root as usize >= project.comps.as_slice().len(),
         Rule::Base => !is_based,
-        _ => false,
+        _ => break_clips(project.clips.as_slice(), rule),
     }
 }
 
 // The first place in the composition, which has this index.
-fn place_in_comp(project: &PlainProject, rule: Rule, index: u32, comp: &PlainComp) -> Option<Place>
-    requires { length comp.now.layers ≤ most_layers }
+fn place_in_comp(
+    project: &PlainProject,
+    nesting: &Nesting,
+    rule: Rule,
+    index: u32,
+    comp: &PlainComp,
+) -> Option<Place>
+    requires formed { IsFormed project.now }
+    requires known { IsKnown project.now nesting.now.loops.items nesting.now.ranks.items }
+    requires few_layers { length comp.now.layers ≤ most_layers }
     ensures { result
         ≡ first_in_comp (λ c. c.layers) (breaks_comp_of project.now rule) (breaks_layer_of project.now rule) index comp.now }
 {
-    if breaks_comp(rule, comp) {
+    if breaks_comp(project, nesting, rule, index as usize, comp) {
         return Some(Place::Comp(index));
     }
-    match first_layer(project, rule, comp) {
+    match first_layer(project, nesting, rule, comp) {
         Some(layer) => Some(Place::Layer(index, layer)),
         None => None,
     }
 }
 
 // The index of the first layer in which it is broken.
-fn first_layer(project: &PlainProject, rule: Rule, comp: &PlainComp) -> Option<u32>
-    requires { length comp.now.layers ≤ most_layers }
+fn first_layer(
+    project: &PlainProject,
+    nesting: &Nesting,
+    rule: Rule,
+    comp: &PlainComp,
+) -> Option<u32>
+    requires formed { IsFormed project.now }
+    requires known { IsKnown project.now nesting.now.loops.items nesting.now.ranks.items }
+    requires few_layers { length comp.now.layers ≤ most_layers }
     ensures { result ≡ first_from (breaks_layer_of project.now rule comp.now) 0 comp.now.layers }
 {
     for (index, layer) in comp.layers.as_slice().iter().enumerate() {
-        if breaks_layer(project, rule, comp, index, layer) {
+        if breaks_layer(project, nesting, rule, comp, index, layer) {
             return Some(index as u32);
         }
     }

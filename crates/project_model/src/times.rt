@@ -1,9 +1,9 @@
 //! All times that a project writes, in order.
 
-ghost use Rattle.std.specs.Prelude.{◌≡◌, ◌++◌, IfOk, OnOk};
+ghost use Rattle.std.specs.Prelude.{◌≡◌, ◌++◌, map, flat_map, IfOk, OnOk};
 ghost use Rattle.project_model.specs.Times.{key_times, layer_times, comp_times, times_of};
 
-use crate::{PlainComp, PlainLayer, PlainProject};
+use crate::{ClipUse, PlainComp, PlainLayer, PlainProject};
 use param_stream::Keyframe;
 use rational_time::Time;
 use std::alloc::{AllocError, Global};
@@ -13,13 +13,32 @@ pub fn times_of(alloc: Global, project: &PlainProject) -> Result<Vec<Time>, Allo
     ensures { IfOk result (λ times. times.items ≡ times_of project.now) }
 {
     let mut times = Vec::new(alloc);
-    for comp in project.comps.as_slice() {
-        push_comp(&mut times, comp)?;
-    }
+    push_clips(&mut times, project.clips.as_slice())?;
+    push_comps(&mut times, project.comps.as_slice())?;
     Ok(times)
 }
 
-// Those of the composition behind the others.
+// Those of the clips behind the others.
+fn push_clips(times: &mut Vec<Time>, clips: &[ClipUse]) -> Result<(), AllocError>
+    ensures { OnOk result (times.new.items ≡ times.old.items ++ map (λ clip. clip.frame) clips.now) }
+{
+    for clip in clips {
+        times.push(clip.frame)?;
+    }
+    Ok(())
+}
+
+// Those of the compositions.
+fn push_comps(times: &mut Vec<Time>, comps: &[PlainComp]) -> Result<(), AllocError>
+    ensures { OnOk result (times.new.items ≡ times.old.items ++ flat_map comp_times comps.now) }
+{
+    for comp in comps {
+        push_comp(times, comp)?;
+    }
+    Ok(())
+}
+
+// Those of the composition.
 fn push_comp(times: &mut Vec<Time>, comp: &PlainComp) -> Result<(), AllocError>
     ensures { OnOk result (times.new.items ≡ times.old.items ++ comp_times comp.now) }
 {

@@ -1,6 +1,8 @@
-use Rattle.std.proofs.Common.{◌∙◌, sym}
+use Rattle.std.proofs.Common.{◌∙◌, sym, ap}
+use Rattle.project_model.specs.Nesting.{ranks_of}
 use Rattle.project_model.proofs.Based.{found_in, refuses}
 use Rattle.project_model.proofs.Checked.{checked_sound}
+use Rattle.project_model.proofs.Ranked.{table_made, told_small}
 use Rattle.project_model.proofs.passing.check.Goals as goal
 
 pub returns-in-Some-clause-refused : goal.returns-in-Some-clause-refused
@@ -10,14 +12,24 @@ returns-in-Some-clause-refused c =
     c.in-Ok.ensures.plain (c.deref.ensures.value ∙ c.in-Ok-times_of.ensures) c.keeps_base-is_based.ensures c.first_breach.ensures)
     c.error_of.ensures
 
+pub ranks_of-requires : goal.ranks_of-requires
+ranks_of-requires c =
+    told_small c.in-Ok.plain c.in-Ok-nesting_of.nesting.ranks.items c.in-Ok.ensures.formed.few_comps c.in-Ok-nesting_of.ensures.known.ranks_told
+
 pub returns-clause-passed : goal.returns-clause-passed
 returns-clause-passed c =
     sym (found_in c.args.project.now c.in-Ok.plain c.deref.result.now c.keeps_base-is_based.result c.first_breach.result
     c.in-Ok.ensures.plain (c.deref.ensures.value ∙ c.in-Ok-times_of.ensures) c.keeps_base-is_based.ensures c.first_breach.ensures)
-    ∙ c.in-None.is
+    ∙ c.in_default-first_breach.is
 
 pub returns-clause-sound : goal.returns-clause-sound
 returns-clause-sound c =
     checked_sound c.args.project.now c.in-Ok.plain c.deref.result.now c.keeps_base-is_based.result c.first_breach.result
     c.in-Ok.ensures.plain c.in-Ok.ensures.formed (c.deref.ensures.value ∙ c.in-Ok-times_of.ensures) c.keeps_base-is_based.ensures c.first_breach.ensures
-    c.in-None.is
+    c.in_default-first_breach.is
+
+pub returns-clause-ranked : goal.returns-clause-ranked
+returns-clause-ranked c =
+    table_made c.in-Ok.plain c.in-Ok-nesting_of.nesting.ranks.items c.in-Ok-ranks_of.ranks
+    c.in-Ok-nesting_of.ensures.known.ranks_told c.in-Ok-nesting_of.ensures.ranks c.in-Ok-ranks_of.ensures
+    ∙ ap ranks_of c.in-Ok.ensures.plain

@@ -1,7 +1,12 @@
-use Rattle.std.proofs.Common.{◌∙◌}
+use Rattle.std.proofs.Common.{◌∙◌, sym}
 use Rattle.project_model.proofs.Based.{none_found}
+use Rattle.project_model.proofs.Checked.{base_kept}
 use Rattle.project_model.proofs.Readied.{comps_ready, sound_of}
 use Rattle.project_model.proofs.project.Project.of_plain.Goals as goal
+
+pub unwrap-requires : goal.unwrap-requires
+unwrap-requires c =
+    sym c.is_some.ensures ∙ base_kept c.args.plain c.is_some.result c.first_breach.result c.first_breach.ensures c.in_default-first_breach.is
 
 pub project_of-requires-clause-ready : goal.project_of-requires-clause-ready
 project_of-requires-clause-ready c =

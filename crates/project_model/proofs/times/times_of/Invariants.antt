@@ -1,7 +1,0 @@
-use Rattle.std.proofs.Common.{◌≡◌, take}
-use Rattle.std.specs.List.{flat_map}
-use Rattle.project_model.specs.Times.{comp_times}
-use Rattle.project_model.proofs.times.times_of.Given as goal
-
-abbrev pub invariant-loop-comp : goal.invariant-loop-comp
-invariant-loop-comp l = l.times.items ≡ flat_map comp_times (take l.comp-index l.comp-items)
