@@ -8,18 +8,18 @@ use Rattle.std.specs.List.{list_all}
 use Rattle.serde_json.specs.Data.{Data}
 use Rattle.serde_json.specs.Find.{get}
 use Rattle.rational_time.specs.declared.time.Time.{Time}
-use Rattle.project_model.specs.Bounds.{is_bit_depth, is_among, is_between, most_layers_in_all, most_keys, full_opacity}
+use Rattle.project_model.specs.Bounds.{is_bit_depth, is_among, is_between, most_clips, most_layers_in_all, most_keys, full_opacity}
 use Rattle.project_model.specs.Form.{IsKeyCount, IsFormedLayer, IsFormedComp, IsFormed, plain_layer_count}
 use Rattle.project_model.specs.Times.{key_times, layer_times, comp_times}
 use Rattle.project_model.specs.declared.place.Place.{Place}
 use Rattle.project_model.specs.Constant.{zero_time, constant_key}
-use Rattle.project_json.specs.Parts.{items_in, is_number, is_this, small, is_there, where_there, is_the_number, u64_in, whole_in, count_in}
+use Rattle.project_json.specs.Parts.{items_in, is_number, is_this, small, is_there, where_there, is_list_of_objects, has_exactly, is_the_number, u64_in, whole_in, count_in}
 use Rattle.project_json.specs.Reads.{time_from, time_from_items, time_in, key_from_items, key_in, keys_in}
-use Rattle.project_json.specs.PlainData.{items_of, plain_layer_of, plain_comp_of, plain_of_data}
-use Rattle.project_json.specs.FormRules.{breaks_layer, is_stream, is_keyframe, place_of, form_rules, form_breach}
+use Rattle.project_json.specs.PlainData.{items_of, plain_clip_of, plain_layer_of, plain_comp_of, plain_of_data}
+use Rattle.project_json.specs.FormRules.{breaks_layer, clip_names, are_clips, is_stream, is_keyframe, place_of, form_rules, form_breach}
 use Rattle.project_json.specs.declared.form.FormRule.{FormRule}
-use Rattle.project_json.specs.declared.form.FormRule.TheVariants.{Unbuilt, Depth, Comps, Layers, LayerCount, Streams}
-use Rattle.project_json.proofs.PlaceLemmas.{within, both, comp_count, layer_count, IsKept, kept_from}
+use Rattle.project_json.specs.declared.form.FormRule.TheVariants.{Unbuilt, Depth, Clips, Comps, Layers, LayerCount, Streams}
+use Rattle.project_json.proofs.PlaceLemmas.{within, both, item_count, comp_count, layer_count, IsKept, kept_from}
 use Rattle.project_json.proofs.OrderLemmas.{broken, first_none}
 
 -- ---- each rule for itself
@@ -128,6 +128,11 @@ scaled-comps [] = All-nil Scaled
 scaled-comps (d ∷ ds) =
     All-append Scaled (comp_times (plain_comp_of d)) (flat_map comp_times (map plain_comp_of ds)) (scaled-comp d) (scaled-comps ds)
 
+scaled-clips : (ds : List Data) → All Scaled (map (λ clip. clip.frame) (map plain_clip_of ds))
+scaled-clips [] = All-nil Scaled
+scaled-clips (d ∷ ds) =
+    All-cons Scaled (plain_clip_of d).frame (map (λ clip. clip.frame) (map plain_clip_of ds)) (scaled-time (get (codes "frame") d)) (scaled-clips ds)
+
 -- ---- streams
 
 one_key : (value : ℤ) → IsKeyCount (constant_key value ∷ [])
@@ -162,6 +167,13 @@ formed_layer d e =
     let second = both (test x) (test y && true) first.1 in
     let third = both (test y) true second.1 in
     record { opacity = stream_count full_opacity opacity first.0; x = stream_count (pos 0) x second.0; y = stream_count (pos 0) y third.0 }
+
+-- ---- clips
+
+clip_count : (o : Option Data) → where_there are_clips o ≡ true → length (unwrap_or (option_map items_in o) []) ≤ most_clips
+clip_count None e = lit≤ tt
+clip_count (Some d) e =
+    (item_count 0 most_clips d (both (is_list_of_objects 0 most_clips d) (list_all (has_exactly clip_names) (items_in d)) e).0).below
 
 -- ---- compositions
 
@@ -205,15 +217,18 @@ formed d e =
     let none = each_none (place_of d) form_rules e in
     let comps = items_of (codes "comps") d in
     let depth = kept_from d Depth (none 4 Unbuilt (lit< tt)) in
-    let counted = kept_from d Comps (none 5 Unbuilt (lit< tt)) in
-    let layers = kept_from d Layers (none 6 Unbuilt (lit< tt)) in
-    let in_all = kept_from d LayerCount (none 7 Unbuilt (lit< tt)) in
-    let streams = kept_from d Streams (none 9 Unbuilt (lit< tt)) in
+    let clips = items_of (codes "clips") d in
+    let clip = kept_from d Clips (none 5 Unbuilt (lit< tt)) in
+    let counted = kept_from d Comps (none 6 Unbuilt (lit< tt)) in
+    let layers = kept_from d Layers (none 7 Unbuilt (lit< tt)) in
+    let in_all = kept_from d LayerCount (none 8 Unbuilt (lit< tt)) in
+    let streams = kept_from d Streams (none 10 Unbuilt (lit< tt)) in
     record {
       bits = bits (get (codes "depth") d) depth.project;
+      few_clips = rw (length-map clips plain_clip_of) (clip_count (get (codes "clips") d) (not_false (where_there are_clips (get (codes "clips") d)) clip.project));
       some_comp = rw (length-map comps plain_comp_of) (comp_count d counted.project).above;
       few_comps = rw (length-map comps plain_comp_of) (comp_count d counted.project).below;
       few_layers = rw (layers_in_all comps) (not_more most_layers_in_all (sum_by (λ comp. length (items_of (codes "layers") comp)) comps) in_all.project);
       comps = All-map IsFormedComp plain_comp_of comps (All-both (IsKept Layers) (IsKept Streams) (λ a. IsFormedComp (plain_comp_of a)) formed_comp comps layers.comps streams.comps);
-      scaled = scaled-comps comps;
+      scaled = All-append Scaled (map (λ clip. clip.frame) (map plain_clip_of clips)) (flat_map comp_times (map plain_comp_of comps)) (scaled-clips clips) (scaled-comps comps);
     }

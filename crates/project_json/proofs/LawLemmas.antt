@@ -18,7 +18,7 @@ use Rattle.project_json.specs.PlainData.{plain_of_data}
 use Rattle.project_json.specs.Reading.{checked, judged, error_of, data_breach}
 use Rattle.project_json.specs.declared.error.ProjectError.TheVariants.{Rule as RuleError}
 use Rattle.project_json.specs.declared.form.FormRule.{FormRule}
-use Rattle.project_json.specs.declared.form.FormRule.TheVariants.{Unbuilt, Whole, Names, Version, Depth, Comps, Layers, LayerCount, Source, Streams, Times}
+use Rattle.project_json.specs.declared.form.FormRule.TheVariants.{Unbuilt, Whole, Names, Version, Depth, Clips, Comps, Layers, LayerCount, Source, Streams, Times}
 use Rattle.project_json.proofs.OrderLemmas.{broken}
 use Rattle.project_json.proofs.FormedLemmas.{each_none}
 
@@ -30,6 +30,7 @@ form_number Whole = lit< tt
 form_number Names = lit< tt
 form_number Version = lit< tt
 form_number Depth = lit< tt
+form_number Clips = lit< tt
 form_number Comps = lit< tt
 form_number Layers = lit< tt
 form_number LayerCount = lit< tt
@@ -39,26 +40,34 @@ form_number Times = lit< tt
 
 rule_number : (r : Rule) → 16 ≤ numbers.number_of r
 rule_number rule.Root = lit≤ tt
+rule_number rule.ClipName = lit≤ tt
+rule_number rule.ClipNames = lit≤ tt
 rule_number rule.Size = lit≤ tt
+rule_number rule.ClipDepth = lit≤ tt
 rule_number rule.Frames = lit≤ tt
 rule_number rule.FrameValue = lit≤ tt
 rule_number rule.Near = lit≤ tt
 rule_number rule.Length = lit≤ tt
 rule_number rule.Base = lit≤ tt
+rule_number rule.ClipBytes = lit≤ tt
 rule_number rule.Solid = lit≤ tt
+rule_number rule.ClipSource = lit≤ tt
+rule_number rule.CompSource = lit≤ tt
+rule_number rule.Nesting = lit≤ tt
 rule_number rule.Mode = lit≤ tt
 rule_number rule.Matte = lit≤ tt
 rule_number rule.MatteLayer = lit≤ tt
 rule_number rule.Span = lit≤ tt
 rule_number rule.Rising = lit≤ tt
 rule_number rule.Range = lit≤ tt
+rule_number rule.Rank = lit≤ tt
 
 abbrev after_first : List FormRule
-after_first = Whole ∷ Names ∷ Version ∷ Depth ∷ Comps ∷ Layers ∷ LayerCount ∷ Source ∷ Streams ∷ Times ∷ []
+after_first = Whole ∷ Names ∷ Version ∷ Depth ∷ Clips ∷ Comps ∷ Layers ∷ LayerCount ∷ Source ∷ Streams ∷ Times ∷ []
 
 -- the first has the number 0
 rise : Rise number_of 0 after_first
-rise = (lit< tt, (lit< tt, (lit< tt, (lit< tt, (lit< tt, (lit< tt, (lit< tt, (lit< tt, (lit< tt, (lit< tt, tt))))))))))
+rise = (lit< tt, (lit< tt, (lit< tt, (lit< tt, (lit< tt, (lit< tt, (lit< tt, (lit< tt, (lit< tt, (lit< tt, (lit< tt, tt)))))))))))
 
 form_found : (p : FormRule → Option Place) (breach : Breach) → broken p form_rules ≡ Some breach → IsFound number_of p form_rules breach
 form_found p breach e = by (p Unbuilt) refl e
@@ -76,12 +85,13 @@ each_below p n h Whole = h.1.0
 each_below p n h Names = h.1.1.0
 each_below p n h Version = h.1.1.1.0
 each_below p n h Depth = h.1.1.1.1.0
-each_below p n h Comps = h.1.1.1.1.1.0
-each_below p n h Layers = h.1.1.1.1.1.1.0
-each_below p n h LayerCount = h.1.1.1.1.1.1.1.0
-each_below p n h Source = h.1.1.1.1.1.1.1.1.0
-each_below p n h Streams = h.1.1.1.1.1.1.1.1.1.0
-each_below p n h Times = h.1.1.1.1.1.1.1.1.1.1.0
+each_below p n h Clips = h.1.1.1.1.1.0
+each_below p n h Comps = h.1.1.1.1.1.1.0
+each_below p n h Layers = h.1.1.1.1.1.1.1.0
+each_below p n h LayerCount = h.1.1.1.1.1.1.1.1.0
+each_below p n h Source = h.1.1.1.1.1.1.1.1.1.0
+each_below p n h Streams = h.1.1.1.1.1.1.1.1.1.1.0
+each_below p n h Times = h.1.1.1.1.1.1.1.1.1.1.1.0
 
 form_kept : (p : FormRule → Option Place) → All (λ r. p r ≡ None) form_rules → (r : FormRule) → p r ≡ None
 form_kept p none Unbuilt = none 0 Unbuilt (lit< tt)
@@ -89,12 +99,13 @@ form_kept p none Whole = none 1 Unbuilt (lit< tt)
 form_kept p none Names = none 2 Unbuilt (lit< tt)
 form_kept p none Version = none 3 Unbuilt (lit< tt)
 form_kept p none Depth = none 4 Unbuilt (lit< tt)
-form_kept p none Comps = none 5 Unbuilt (lit< tt)
-form_kept p none Layers = none 6 Unbuilt (lit< tt)
-form_kept p none LayerCount = none 7 Unbuilt (lit< tt)
-form_kept p none Source = none 8 Unbuilt (lit< tt)
-form_kept p none Streams = none 9 Unbuilt (lit< tt)
-form_kept p none Times = none 10 Unbuilt (lit< tt)
+form_kept p none Clips = none 5 Unbuilt (lit< tt)
+form_kept p none Comps = none 6 Unbuilt (lit< tt)
+form_kept p none Layers = none 7 Unbuilt (lit< tt)
+form_kept p none LayerCount = none 8 Unbuilt (lit< tt)
+form_kept p none Source = none 9 Unbuilt (lit< tt)
+form_kept p none Streams = none 10 Unbuilt (lit< tt)
+form_kept p none Times = none 11 Unbuilt (lit< tt)
 
 -- ---- both kinds together
 

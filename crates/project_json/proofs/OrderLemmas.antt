@@ -11,14 +11,14 @@ use Rattle.project_json.specs.Reading.{verdict}
 use Rattle.project_json.specs.Counts.{IsIndexed}
 use Rattle.project_json.specs.declared.error.ProjectError.{ProjectError}
 use Rattle.project_json.specs.declared.form.FormRule.{FormRule}
-use Rattle.project_json.specs.declared.form.FormRule.TheVariants.{Unbuilt, Whole, Names, Version, Depth, Comps, Layers, LayerCount, Source, Streams, Times}
+use Rattle.project_json.specs.declared.form.FormRule.TheVariants.{Unbuilt, Whole, Names, Version, Depth, Clips, Comps, Layers, LayerCount, Source, Streams, Times}
 use Rattle.project_json.proofs.PlaceLemmas.{indexed_project, indexed_Comps, indexed_Layers, indexed_later}
 
 abbrev pub broken : (FormRule → Option Place) → List FormRule → Option Breach
 broken place_of rules = first_broken number_of place_of rules
 
 abbrev pub counted : List FormRule
-counted = Unbuilt ∷ Whole ∷ Names ∷ Version ∷ Depth ∷ Comps ∷ []
+counted = Unbuilt ∷ Whole ∷ Names ∷ Version ∷ Depth ∷ Clips ∷ Comps ∷ []
 
 abbrev pub later : List FormRule
 later = LayerCount ∷ Source ∷ Streams ∷ Times ∷ []
@@ -46,12 +46,13 @@ first_none r p rest e = parts (p r) (broken p rest) e
 
 pub last_counted : (p : FormRule → Option Place) → broken p counted ≡ None → p Comps ≡ None
 last_counted p e =
-    let a = first_none Unbuilt p (Whole ∷ Names ∷ Version ∷ Depth ∷ Comps ∷ []) e in
-    let b = first_none Whole p (Names ∷ Version ∷ Depth ∷ Comps ∷ []) a.1 in
-    let d = first_none Names p (Version ∷ Depth ∷ Comps ∷ []) b.1 in
-    let f = first_none Version p (Depth ∷ Comps ∷ []) d.1 in
-    let g = first_none Depth p (Comps ∷ []) f.1 in
-    (first_none Comps p [] g.1).0
+    let a = first_none Unbuilt p (Whole ∷ Names ∷ Version ∷ Depth ∷ Clips ∷ Comps ∷ []) e in
+    let b = first_none Whole p (Names ∷ Version ∷ Depth ∷ Clips ∷ Comps ∷ []) a.1 in
+    let d = first_none Names p (Version ∷ Depth ∷ Clips ∷ Comps ∷ []) b.1 in
+    let f = first_none Version p (Depth ∷ Clips ∷ Comps ∷ []) d.1 in
+    let g = first_none Depth p (Clips ∷ Comps ∷ []) f.1 in
+    let h = first_none Clips p (Comps ∷ []) g.1 in
+    (first_none Comps p [] h.1).0
 
 pub only_one : (p : FormRule → Option Place) (r : FormRule) → broken p (r ∷ []) ≡ None → p r ≡ None
 only_one p r e = (first_none r p [] e).0
@@ -92,7 +93,10 @@ indexed_counted top =
         indexed_project top Whole refl refl,
         (
           indexed_project top Names refl refl,
-          (indexed_project top Version refl refl, (indexed_project top Depth refl refl, (indexed_Comps top, tt))),
+          (
+            indexed_project top Version refl refl,
+            (indexed_project top Depth refl refl, (indexed_project top Clips refl refl, (indexed_Comps top, tt))),
+          ),
         ),
       ),
     )

@@ -11,16 +11,13 @@ use Rattle.serde_json.specs.Find.{as_number, as_array, as_object, get}
 use Rattle.project_model.specs.Constant.{constant_key}
 use Rattle.project_json.specs.Parts.{list_of, member_names, is_one_of, texts_of, has_only, has_each, items_in, whole_in, is_number, is_object, is_list_of_objects}
 use Rattle.rational_time.specs.declared.time.Time.{Time}
+use Rattle.project_model.specs.declared.clip.ClipUse.{ClipUse}
 use Rattle.project_model.specs.declared.plain.PlainLayer.{PlainLayer}
 use Rattle.project_model.specs.declared.plain.PlainComp.{PlainComp}
 use Rattle.project_model.specs.declared.plain.PlainProject.{PlainProject}
 use Rattle.project_model.specs.Bounds.{is_among, most_keys}
 use Rattle.project_json.specs.Reads.{key_in, keys_in}
 use Rattle.project_json.specs.FormRules.{is_keyframe, is_stream}
-
-pub list_any-map : {X Y : Type 0} (p : X → Bool) (f : Y → X) (ys : List Y) → list_any p (map f ys) ≡ list_any (λ y. p (f y)) ys
-list_any-map p f [] = refl
-list_any-map p f (y ∷ ys) = ap (λ b. p (f y) || b) (list_any-map p f ys)
 
 pub list_of-items_view : (vs : List Value) → list_of (items_view vs) ≡ map view vs
 list_of-items_view [] = refl
@@ -73,11 +70,6 @@ is_one_of-texts name (x ∷ xs) = ap (λ b. bytes_eq name x.now || b) (is_one_of
 pub each-texts : (d : Data) (names : List (Bor (List ℕ))) → has_each (texts_of names) d ≡ list_all (λ name. is_some (get name.now d)) names
 each-texts d [] = refl
 each-texts d (x ∷ xs) = ap (λ b. is_some (get x.now d) && b) (each-texts d xs)
-
-pub any-texts : (names : List (Bor (List ℕ))) (es : List (String Global × Value))
-    → list_any (is_one_of (texts_of names)) (member_names (members_view es)) ≡ list_any (λ k. list_any (λ allowed. bytes_eq (string_bytes k) allowed.now) names) (keys_of es)
-any-texts names [] = refl
-any-texts names (e ∷ es) = rw (is_one_of-texts (string_bytes e.0) names, any-texts names es)
 
 pub only-texts : (names : List (Bor (List ℕ))) (es : List (String Global × Value))
     → has_only (texts_of names) (object (members_view es)) ≡ list_all (λ k. list_any (λ allowed. bytes_eq (string_bytes k) allowed.now) names) (keys_of es)
@@ -143,9 +135,17 @@ mapped f vs ds e = twice vs ∙ ap (map f) e
 pub keys_test : (d : Data) → is_number d ≡ false → keys_in d ≡ map key_in (items_in d)
 keys_test d e = ap (λ b. if b then constant_key (unwrap_or (whole_in d) (pos 0)) ∷ [] else map key_in (items_in d)) e
 
-pub same_project : (depth depth' root root' : ℕ) (comps comps' : List PlainComp) → depth ≡ depth' → root ≡ root' → comps ≡ comps'
-    → ◌≡◌ {A = PlainProject} (record { depth = depth; root = root; comps = comps }) (record { depth = depth'; root = root'; comps = comps' })
-same_project depth depth' root root' comps comps' d r e = cc
+pub same_project : (depth depth' root root' : ℕ) (clips clips' : List ClipUse) (comps comps' : List PlainComp) → depth ≡ depth' → root ≡ root'
+    → clips ≡ clips' → comps ≡ comps'
+    → ◌≡◌ {A = PlainProject} (record { depth = depth; root = root; clips = clips; comps = comps })
+    (record { depth = depth'; root = root'; clips = clips'; comps = comps' })
+same_project depth depth' root root' clips clips' comps comps' d r k e = cc
+
+-- a clip, part by part
+pub same_clip : (name name' : List ℕ) (w w' h h' d d' n n' : ℕ) (f f' : Time) → name ≡ name' → w ≡ w' → h ≡ h' → d ≡ d' → f ≡ f' → n ≡ n'
+    → ◌≡◌ {A = ClipUse} (record { name = name; width = w; height = h; depth = d; frame = f; frames = n })
+    (record { name = name'; width = w'; height = h'; depth = d'; frame = f'; frames = n' })
+same_clip name name' w w' h h' d d' n n' f f' a b c e g i = cc
 
 -- a composition, part by part
 pub same_comp : (w w' h h' n n' : ℕ) (f f' : Time) (ls ls' : List PlainLayer) → w ≡ w' → h ≡ h' → f ≡ f' → n ≡ n' → ls ≡ ls'

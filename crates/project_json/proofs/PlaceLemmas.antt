@@ -114,20 +114,23 @@ within low high n e = record {
   below = le_from n high (both (nat_le low n) (nat_le n high) e).1;
 }
 
+pub item_count : (least most : ℕ) (d : Data) → is_list_of_objects least most d ≡ true → IsWithin least most (length (items_in d))
+item_count least most null e = absurd cc
+item_count least most (boolean b) e = absurd cc
+item_count least most (number n) e = absurd cc
+item_count least most (string s) e = absurd cc
+item_count least most (object ms) e = absurd cc
+item_count least most (array items) e =
+    within least most (length (list_of items)) (both (is_among least most (length (list_of items))) (list_all is_object (list_of items)) e).0
+
 listed : (least most : ℕ) (o : Option Data) → not (is_there (is_list_of_objects least most) o) ≡ false
     → IsWithin least most (length (unwrap_or (option_map items_in o) []))
 listed least most None e = absurd cc
-listed least most (Some null) e = absurd cc
-listed least most (Some (boolean b)) e = absurd cc
-listed least most (Some (number n)) e = absurd cc
-listed least most (Some (string s)) e = absurd cc
-listed least most (Some (object ms)) e = absurd cc
-listed least most (Some (array items)) e =
-    within least most (length (list_of items)) (first (is_among least most (length (list_of items))) (list_all is_object (list_of items)) e)
+listed least most (Some d) e = item_count least most d (holds (is_list_of_objects least most d) e)
   where
-    first : (a b : Bool) → not (a && b) ≡ false → a ≡ true
-    first true b e = refl
-    first false b e = absurd cc
+    holds : (a : Bool) → not a ≡ false → a ≡ true
+    holds true e = refl
+    holds false e = absurd cc
 
 pub comp_count : (top : Data) → breaks_project top Comps ≡ false → IsWithin 1 most_comps (length (items_of (codes "comps") top))
 comp_count top e = listed 1 most_comps (get (codes "comps") top) e

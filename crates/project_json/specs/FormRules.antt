@@ -1,19 +1,19 @@
 -- The rules on a project's form, before any on its numbers: a line a rule for what breaks it, at each kind of place.
 -- Each speaks of what those before it have let through, and accepts what they refuse.
 use Rattle.std.specs.Prelude.{ℕ, ◌&&◌, ◌||◌, ◌==◌, List, [], ◌∷◌, length, codes, Bool, true, false, not, nat_lt, is_some, Option, option_map, sum_by}
-use Rattle.std.specs.List.{list_any, list_all}
+use Rattle.std.specs.List.{list_all}
 use Rattle.serde_json.specs.Data.{Data}
 use Rattle.serde_json.specs.Find.{get}
-use Rattle.project_model.specs.Bounds.{most_comps, most_layers, most_layers_in_all, most_keys, is_among}
+use Rattle.project_model.specs.Bounds.{most_clips, most_comps, most_layers, most_layers_in_all, most_keys, is_among}
 use Rattle.project_model.specs.Places.{first_place}
 use Rattle.project_model.specs.Broken.{first_broken}
 use Rattle.project_model.specs.declared.place.Breach.{Breach}
 use Rattle.project_model.specs.declared.place.Place.{Place}
-use Rattle.project_json.specs.Parts.{items_in, names_in, is_number, is_one_of, has_only, has_each, has_exactly, is_there, where_there, is_list_of_objects, is_the_number, whole_in, anywhere}
+use Rattle.project_json.specs.Parts.{items_in, names_in, is_number, has_only, has_each, has_exactly, is_there, where_there, is_list_of_objects, is_the_number, whole_in, anywhere}
 use Rattle.project_json.specs.Reads.{time_in, kind_in}
 use Rattle.project_json.specs.PlainData.{items_of}
 use Rattle.project_json.specs.declared.form.FormRule.{FormRule}
-use Rattle.project_json.specs.declared.form.FormRule.TheVariants.{Unbuilt, Whole, Names, Version, Depth, Comps, Layers, LayerCount, Source, Streams, Times}
+use Rattle.project_json.specs.declared.form.FormRule.TheVariants.{Unbuilt, Whole, Names, Version, Depth, Clips, Comps, Layers, LayerCount, Source, Streams, Times}
 
 abbrev pub number_of : FormRule → ℕ
 number_of Unbuilt = 0
@@ -21,6 +21,7 @@ number_of Whole = 1
 number_of Names = 2
 number_of Version = 3
 number_of Depth = 4
+number_of Clips = 5
 number_of Comps = 6
 number_of Layers = 7
 number_of LayerCount = 8
@@ -31,14 +32,13 @@ number_of Times = 15
 -- all of them, in the order of their numbers
 abbrev pub form_rules : List FormRule
 form_rules =
-    Unbuilt ∷ Whole ∷ Names ∷ Version ∷ Depth ∷ Comps ∷ Layers ∷ LayerCount ∷ Source ∷ Streams ∷ Times ∷ []
-
--- the names that stand for parts which are not built yet
-abbrev pub unbuilt_names : List (List ℕ)
-unbuilt_names = codes "clips" ∷ codes "clip" ∷ codes "comp" ∷ codes "effects" ∷ []
+    Unbuilt ∷ Whole ∷ Names ∷ Version ∷ Depth ∷ Clips ∷ Comps ∷ Layers ∷ LayerCount ∷ Source ∷ Streams ∷ Times ∷ []
 
 abbrev pub project_names : List (List ℕ)
 project_names = codes "version" ∷ codes "depth" ∷ codes "root" ∷ codes "clips" ∷ codes "comps" ∷ []
+
+abbrev pub clip_names : List (List ℕ)
+clip_names = codes "name" ∷ codes "width" ∷ codes "height" ∷ codes "depth" ∷ codes "frame" ∷ codes "frames" ∷ []
 
 abbrev pub comp_names : List (List ℕ)
 comp_names = codes "width" ∷ codes "height" ∷ codes "frame" ∷ codes "frames" ∷ codes "layers" ∷ []
@@ -58,13 +58,17 @@ stream_names = codes "opacity" ∷ codes "x" ∷ codes "y" ∷ []
 abbrev pub time_names : List (List ℕ)
 time_names = codes "start" ∷ codes "in" ∷ codes "out" ∷ []
 
--- an object with a member for a part that is not built yet
+-- an object with a member named `effects`, which are not built yet
 abbrev pub has_unbuilt : Data → Bool
-has_unbuilt d = list_any (is_one_of unbuilt_names) (names_in d)
+has_unbuilt d = is_some (get (codes "effects") d)
 
 -- a number that is not whole, or too large
 abbrev pub is_not_whole : Data → Bool
 is_not_whole d = is_number d && not (is_some (whole_in d))
+
+-- an array of at most 64 objects, each with exactly the six names of a clip
+abbrev pub are_clips : Data → Bool
+are_clips d = is_list_of_objects 0 most_clips d && list_all (has_exactly clip_names) (items_in d)
 
 -- three items, the first a number, and the third a kind
 abbrev pub are_key_parts : List Data → Bool
@@ -82,6 +86,10 @@ is_stream d = is_number d || (is_among 1 most_keys (length (items_in d)) && list
 abbrev pub is_time : Data → Bool
 is_time d = is_some (time_in d)
 
+-- the frame of a clip, or of a composition, is a time
+abbrev pub has_frame : Data → Bool
+has_frame d = is_there is_time (get (codes "frame") d)
+
 abbrev pub has_time_second : List Data → Bool
 has_time_second (value ∷ time ∷ kind ∷ []) = is_time time
 has_time_second _ = true
@@ -94,25 +102,26 @@ key_has_time d = has_time_second (items_in d)
 abbrev pub is_source : Data → Bool
 is_source d = has_only source_names d && length (names_in d) == 1
 
--- what breaks a rule in the project outside its compositions
+-- what breaks a rule in the project outside its compositions, its clips included
 abbrev pub breaks_project : Data → FormRule → Bool
-breaks_project top Unbuilt =
-    anywhere has_unbuilt top || nat_lt 1 (length (items_of (codes "comps") top))
+breaks_project top Unbuilt = anywhere has_unbuilt top
 breaks_project top Whole = anywhere is_not_whole top
 breaks_project top Names = not (has_only project_names top)
 breaks_project top Version = not (is_there (is_the_number 1) (get (codes "version") top))
 breaks_project top Depth =
     not (is_there (λ d. is_the_number 8 d || is_the_number 16 d) (get (codes "depth") top))
+breaks_project top Clips = not (where_there are_clips (get (codes "clips") top))
 breaks_project top Comps = not (is_there (is_list_of_objects 1 most_comps) (get (codes "comps") top))
 breaks_project top LayerCount =
     nat_lt most_layers_in_all (sum_by (λ comp. length (items_of (codes "layers") comp)) (items_of (codes "comps") top))
+breaks_project top Times = not (list_all has_frame (items_of (codes "clips") top))
 breaks_project top _ = false
 
 -- what breaks it in a composition outside its layers
 abbrev pub breaks_comp : FormRule → Data → Bool
 breaks_comp Comps comp = not (has_exactly comp_names comp)
 breaks_comp Layers comp = not (is_there (is_list_of_objects 0 most_layers) (get (codes "layers") comp))
-breaks_comp Times comp = not (is_there is_time (get (codes "frame") comp))
+breaks_comp Times comp = not (has_frame comp)
 breaks_comp _ comp = false
 
 -- what breaks it in a layer

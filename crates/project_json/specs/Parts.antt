@@ -89,6 +89,13 @@ small n = if is_among 0 4294967295 n then Some n else None
 abbrev pub count_in : Data → Option ℕ
 count_in d = option_and_then small (u64_in d)
 
+abbrev pub tiny : ℕ → Option ℕ
+tiny n = if is_among 0 255 n then Some n else None
+
+-- the whole number that it is, from 0 to 255
+abbrev pub byte_in : Data → Option ℕ
+byte_in d = option_and_then tiny (u64_in d)
+
 -- the test accepts some value in d, at any depth, d itself included
 abbrev mutual
   pub anywhere : (Data → Bool) → Data → Bool

@@ -1,10 +1,10 @@
 -- The plain parts of a project that a JSON value writes. It is total: a number that is not there, or that is no whole number
--- from 0 to 2^32-1, counts as 0, or as the greatest index, and what names no mode or matte as none; the rule on it accepts none of
--- these. What is absent has its default.
+-- from 0 to 2^32-1, or to 255 for the depth of a clip, counts as 0, or as the greatest index; what is no name counts as the empty
+-- one, and what names no mode or matte as none; the rule on it accepts none of these. What is absent has its default.
 use Rattle.std.specs.Prelude.{ℕ, ℤ, pos, List, [], ◌∷◌, map, codes, Option, Some, option_and_then, option_map, unwrap_or}
 use Rattle.std.specs.Option.{option_map_or}
 use Rattle.serde_json.specs.Data.{Data}
-use Rattle.serde_json.specs.Find.{get}
+use Rattle.serde_json.specs.Find.{get, as_str}
 use Rattle.rational_time.specs.declared.time.Time.{Time}
 use Rattle.param_stream.specs.declared.key.Keyframe.{Keyframe}
 use Rattle.transfer_mode.specs.declared.mode.Mode.{Mode}
@@ -13,19 +13,24 @@ use Rattle.track_matte.specs.declared.matte.Matte.{Matte}
 use Rattle.track_matte.specs.declared.matte.Matte.TheVariants as matte
 use Rattle.project_model.specs.Bounds.{full_opacity}
 use Rattle.project_model.specs.Constant.{zero_time, constant_key}
+use Rattle.project_model.specs.declared.clip.ClipUse.{ClipUse}
 use Rattle.project_model.specs.declared.plain.PlainLayer.{PlainLayer}
 use Rattle.project_model.specs.declared.plain.PlainComp.{PlainComp}
 use Rattle.project_model.specs.declared.plain.PlainProject.{PlainProject}
-use Rattle.project_json.specs.Parts.{items_in, count_in}
-use Rattle.project_json.specs.Reads.{time_in, keys_in, mode_in, matte_in, no_solid, source_in}
+use Rattle.project_json.specs.Parts.{items_in, byte_in, count_in}
+use Rattle.project_json.specs.Reads.{time_in, keys_in, mode_in, matte_in, no_solid, no_index, source_in}
 
 -- the count in the member of that name
 abbrev pub count_of : ℕ → List ℕ → Data → ℕ
 count_of other name d = unwrap_or (option_and_then count_in (get name d)) other
 
--- an index that names nothing
-abbrev pub no_index : ℕ
-no_index = 4294967295
+-- the text in the member of that name
+abbrev pub text_of : List ℕ → Data → List ℕ
+text_of name d = unwrap_or (option_and_then as_str (get name d)) []
+
+-- the depth of a clip
+abbrev pub depth_of : Data → ℕ
+depth_of clip = unwrap_or (option_and_then byte_in (get (codes "depth") clip)) 0
 
 abbrev pub time_of : List ℕ → Data → Time
 time_of name d = unwrap_or (option_and_then time_in (get name d)) zero_time
@@ -45,6 +50,16 @@ mode_of layer = option_map_or mode_in (get (codes "mode") layer) (Some Normal)
 -- the matte that the member names, none where it is not there
 abbrev pub matte_of : Data → Option Matte
 matte_of layer = option_map_or matte_in (get (codes "matte") layer) (Some matte.None)
+
+abbrev pub plain_clip_of : Data → ClipUse
+plain_clip_of clip = record {
+  name = text_of (codes "name") clip;
+  width = count_of 0 (codes "width") clip;
+  height = count_of 0 (codes "height") clip;
+  depth = depth_of clip;
+  frame = time_of (codes "frame") clip;
+  frames = count_of 0 (codes "frames") clip;
+}
 
 abbrev pub plain_layer_of : Data → PlainLayer
 plain_layer_of layer = record {
@@ -72,5 +87,6 @@ abbrev pub plain_of_data : Data → PlainProject
 plain_of_data top = record {
   depth = count_of 0 (codes "depth") top;
   root = count_of no_index (codes "root") top;
+  clips = map plain_clip_of (items_of (codes "clips") top);
   comps = map plain_comp_of (items_of (codes "comps") top);
 }

@@ -1,5 +1,5 @@
 -- What the parts of a project are read as: times, keyframes, modes, mattes and sources.
-use Rattle.std.specs.Prelude.{ℕ, ◌&&◌, ℤ, pos, negsuc, List, [], ◌∷◌, map, codes, if◌then◌else◌, Option, Some, None, option_and_then, option_map, unwrap_or}
+use Rattle.std.specs.Prelude.{ℕ, ◌&&◌, ℤ, pos, negsuc, List, [], ◌∷◌, map, codes, if◌then◌else◌, Option, Some, None, option_and_then, unwrap_or}
 use Rattle.std.specs.Str.{bytes_eq}
 use Rattle.serde_json.specs.Data.{Data}
 use Rattle.serde_json.specs.Find.{get, as_str}
@@ -14,7 +14,7 @@ use Rattle.track_matte.specs.declared.matte.Matte.{Matte}
 use Rattle.project_model.specs.Bounds.{is_among, is_between}
 use Rattle.project_model.specs.Constant.{zero_time, constant_key}
 use Rattle.project_model.specs.declared.item.Item.{Item}
-use Rattle.project_model.specs.declared.item.Item.TheVariants.{Solid}
+use Rattle.project_model.specs.declared.item.Item.TheVariants.{Solid, Clip, Comp}
 use Rattle.project_json.specs.Parts.{items_in, is_number, whole_in, count_in}
 
 abbrev pub time_from : Option ℤ → Option ℕ → Option Time
@@ -86,6 +86,21 @@ solid_from_items _ = None
 abbrev pub solid_in : Data → Item
 solid_in d = unwrap_or (solid_from_items (items_in d)) no_solid
 
--- `{"solid": ..}`
+-- an index that names nothing: no project has so many clips or compositions
+abbrev pub no_index : ℕ
+no_index = 4294967295
+
+-- a whole number from 0 to 2^32-1, or an index that names nothing
+abbrev pub index_in : Data → ℕ
+index_in d = unwrap_or (count_in d) no_index
+
+-- the members for a solid, a clip and a composition
+abbrev pub source_from : Option Data → Option Data → Option Data → Item
+source_from (Some solid) _ _ = solid_in solid
+source_from None (Some clip) _ = Clip (index_in clip)
+source_from None None (Some comp) = Comp (index_in comp)
+source_from None None None = no_solid
+
+-- `{"solid": ..}`, `{"clip": index}` or `{"comp": index}`
 abbrev pub source_in : Data → Item
-source_in d = unwrap_or (option_map solid_in (get (codes "solid") d)) no_solid
+source_in d = source_from (get (codes "solid") d) (get (codes "clip") d) (get (codes "comp") d)

@@ -3,16 +3,20 @@ ghost use Rattle.std.specs.List.{list_all};
 ghost use Rattle.serde_json.specs.Find.{get};
 ghost use Rattle.serde_json.specs.View.{view};
 ghost use Rattle.project_model.specs.Bounds.{most_layers_in_all};
-ghost use Rattle.project_json.specs.Parts.{has_only, has_each, is_there, where_there, is_list_of_objects, is_the_number};
+ghost use Rattle.project_json.specs.Parts.{has_only, has_each, has_exactly, is_there, where_there, is_list_of_objects, is_the_number};
 ghost use Rattle.project_json.specs.PlainData.{items_of};
 ghost use Rattle.project_json.specs.Counts.{is_in_comps, is_in_layers};
-ghost use Rattle.project_json.specs.FormRules.{number_of, breaks_project, breaks_comp, breaks_layer, layer_names, stream_names, time_names, is_stream, is_time, key_has_time, is_source};
-ghost use Rattle.project_json.specs.declared.form.FormRule.TheVariants.{Unbuilt};
+ghost use Rattle.project_json.specs.FormRules.{number_of, breaks_project, breaks_comp, breaks_layer, layer_names, stream_names, time_names, clip_names, are_clips, has_frame, is_stream, is_time, key_has_time, is_source};
 
 use crate::anywhere::{Sought, is_anywhere};
-use crate::parts::{has_each, has_exactly, has_only, is_list_of_objects, is_the_number, items_of};
-use crate::shapes::{has_time, is_source, keys_have_times, may_be_stream, may_be_time};
+use crate::parts::{
+    has_each, has_exactly, has_only, is_list_of_objects, is_the_number, items_in, items_of,
+};
+use crate::shapes::{has_frame, is_source, keys_have_times, may_be_stream, may_be_time};
 use serde_json::Value;
+
+/// The most clips of a project.
+const MOST_CLIPS: usize = project_model::MOST_CLIPS as usize;
 
 /// The most compositions of a project.
 const MOST_COMPS: usize = project_model::MOST_COMPS as usize;
@@ -26,7 +30,7 @@ const MOST_LAYERS_IN_ALL: usize = project_model::MOST_LAYERS_IN_ALL as usize;
 /// The rules on a project's form, by their numbers, before any on its numbers. They are this project's own.
 #[derive(Clone, Copy, Debug, PartialEq, Eq)]
 pub(crate) enum FormRule {
-    /// 0: no part that is not built yet: clips, nested compositions, effects, a second composition.
+    /// 0: no object, at any depth, has a member named `effects`, which are not built yet.
     Unbuilt,
     /// 1: every number, at any depth, is a whole number from -2^63 to 2^63-1, written without fraction or exponent.
     Whole,
@@ -36,6 +40,8 @@ pub(crate) enum FormRule {
     Version,
     /// 4: `depth` is 8 or 16.
     Depth,
+    /// 5: `clips`, where it is there, is an array of at most 64 objects, each with exactly the six names of a clip.
+    Clips,
     /// 6: `comps` is an array of 1 to 64 objects, each with exactly its five names.
     Comps,
     /// 7: `layers` of each composition is an array of at most 128 objects, each with `source` and no names but a layer's.
@@ -61,6 +67,7 @@ impl FormRule {
             FormRule::Names => 2,
             FormRule::Version => 3,
             FormRule::Depth => 4,
+            FormRule::Clips => 5,
             FormRule::Comps => 6,
             FormRule::Layers => 7,
             FormRule::LayerCount => 8,
@@ -70,18 +77,20 @@ impl FormRule {
         }
     }
 
-    /// What breaks it in the project outside its compositions.
+    /// What breaks it in the project outside its compositions, its clips included.
     pub(crate) fn is_broken_in_project(self, top: &Value) -> bool
         ensures { result ≡ breaks_project (view top.now) self }
     {
         match self {
-            FormRule::Unbuilt => is_unbuilt(top),
+            FormRule::Unbuilt => is_anywhere(Sought::Unbuilt, top),
             FormRule::Whole => is_anywhere(Sought::NotWhole, top),
             FormRule::Names => !has_only(top, &["version", "depth", "root", "clips", "comps"]),
             FormRule::Version => !is_number_of(top, "version", 1),
             FormRule::Depth => !is_number_of(top, "depth", 8) && !is_number_of(top, "depth", 16),
+            FormRule::Clips => !may_have_clips(top),
             FormRule::Comps => !has_objects(top, "comps", 1, MOST_COMPS),
             FormRule::LayerCount => has_too_many_layers(items_of(top, "comps")),
+            FormRule::Times => !clips_have_frames(top),
             _ => false,
         }
     }
@@ -97,7 +106,7 @@ impl FormRule {
                 &["width", "height", "frame", "frames", "layers"],
             ),
             FormRule::Layers => !has_objects(comp, "layers", 0, MOST_LAYERS),
-            FormRule::Times => !has_time(comp, "frame"),
+            FormRule::Times => !has_frame(comp),
             _ => false,
         }
     }
@@ -115,13 +124,6 @@ impl FormRule {
             _ => false,
         }
     }
-}
-
-/// A part that is not built yet.
-fn is_unbuilt(top: &Value) -> bool
-    ensures { result ≡ breaks_project (view top.now) Unbuilt }
-{
-    is_anywhere(Sought::Unbuilt, top) || items_of(top, "comps").len() > 1
 }
 
 /// The member of that name is there, and is this number.
@@ -142,6 +144,48 @@ fn has_objects(value: &Value, name: &str, least: usize, most: usize) -> bool
         Some(list) => is_list_of_objects(list, least, most),
         None => false,
     }
+}
+
+/// An object with exactly the six names of a clip.
+fn is_clip(value: &Value) -> bool
+    ensures { result ≡ has_exactly clip_names (view value.now) }
+{
+    let names = ["name", "width", "height", "depth", "frame", "frames"];
+    has_exactly(value, &names)
+}
+
+fn each_is_clip(items: &[Value]) -> bool
+    ensures { result ≡ list_all (λ item. has_exactly clip_names (view item)) items.now }
+{
+    items.iter().all(|item| is_clip(item))
+}
+
+/// An array of at most 64 objects, each with exactly the six names of a clip.
+fn are_clips(value: &Value) -> bool
+    ensures { result ≡ are_clips (view value.now) }
+{
+    is_list_of_objects(value, 0, MOST_CLIPS) && each_is_clip(items_in(value))
+}
+
+fn may_have_clips(top: &Value) -> bool
+    ensures { result ≡ where_there are_clips (get (codes "clips") (view top.now)) }
+{
+    match top.get("clips") {
+        Some(clips) => are_clips(clips),
+        None => true,
+    }
+}
+
+fn have_frames(clips: &[Value]) -> bool
+    ensures { result ≡ list_all (λ clip. has_frame (view clip)) clips.now }
+{
+    clips.iter().all(|clip| has_frame(clip))
+}
+
+fn clips_have_frames(top: &Value) -> bool
+    ensures { result ≡ list_all has_frame (items_of (codes "clips") (view top.now)) }
+{
+    have_frames(items_of(top, "clips"))
 }
 
 fn has_layer_names(layer: &Value) -> bool

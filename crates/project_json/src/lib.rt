@@ -14,4 +14,4 @@ mod shapes;
 
 pub use error::ProjectError;
 pub use laws::{project_keeps_rules, refusal_is_least};
-pub use read::{read_project, two_pixels_are_read};
+pub use read::{nested_clip_is_read, read_project, two_pixels_are_read};

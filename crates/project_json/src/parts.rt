@@ -5,7 +5,7 @@ ghost use Rattle.std.specs.Str.{bytes_eq};
 ghost use Rattle.serde_json.specs.Find.{get, as_object};
 ghost use Rattle.serde_json.specs.View.{view};
 ghost use Rattle.project_model.specs.Bounds.{is_among};
-ghost use Rattle.project_json.specs.Parts.{items_in, names_in, is_one_of, texts_of, has_only, has_each, has_exactly, is_the_number, is_object, is_list_of_objects, count_in, whole_in};
+ghost use Rattle.project_json.specs.Parts.{items_in, names_in, texts_of, has_only, has_each, has_exactly, is_the_number, is_list_of_objects, byte_in, count_in, whole_in};
 ghost use Rattle.project_json.specs.FormRules.{has_unbuilt, is_not_whole};
 ghost use Rattle.project_json.specs.PlainData.{items_of};
 
@@ -97,6 +97,13 @@ pub(crate) fn count_in(value: &Value) -> Option<u32>
     u32::try_from(value.as_u64()?).ok()
 }
 
+/// The whole number that it is, from 0 to 255.
+pub(crate) fn byte_in(value: &Value) -> Option<u8>
+    ensures { result ≡ byte_in (view value.now) }
+{
+    u8::try_from(value.as_u64()?).ok()
+}
+
 fn are_objects(items: &[Value]) -> bool
     ensures { result ≡ list_all (λ item. is_some (as_object (view item))) items.now }
 {
@@ -137,29 +144,11 @@ pub(crate) fn is_not_whole(value: &Value) -> bool
     value.is_number() && !value.is_i64()
 }
 
-fn any_among(members: &Map<String, Value>, names: &[&str]) -> bool
-    ensures { result
-        ≡ list_any (λ k. list_any (λ allowed. bytes_eq (string_bytes k) allowed.now) names.now) (keys members.now) }
-{
-    members.keys().any(|name| is_one_of(name.as_str(), names))
-}
-
-/// An object with one of these names.
-fn has_any(value: &Value, names: &[&str]) -> bool
-    ensures { result ≡ list_any (is_one_of (texts_of names.now)) (names_in (view value.now)) }
-{
-    match value.as_object() {
-        Some(members) => any_among(members, names),
-        None => false,
-    }
-}
-
-/// An object with a member for a part that is not built yet.
+/// An object with a member named `effects`, which are not built yet.
 pub(crate) fn has_unbuilt(value: &Value) -> bool
     ensures { result ≡ has_unbuilt (view value.now) }
 {
-    let names = ["clips", "clip", "comp", "effects"];
-    has_any(value, &names)
+    has_member(value, "effects")
 }
 
 /// How many names an object has; any other value has none.

@@ -109,6 +109,7 @@ pub(crate) fn check_form(top: &Value) -> Result<(), ProjectError>
         FormRule::Names,
         FormRule::Version,
         FormRule::Depth,
+        FormRule::Clips,
         FormRule::Comps,
     ];
     let later = [

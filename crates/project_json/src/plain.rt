@@ -3,23 +3,22 @@ ghost use Rattle.serde_json.specs.Find.{get};
 ghost use Rattle.serde_json.specs.View.{view};
 ghost use Rattle.project_model.specs.Constant.{constant_key};
 ghost use Rattle.project_json.specs.Reads.{key_in, keys_in, time_in, source_in, no_solid};
-ghost use Rattle.project_json.specs.PlainData.{count_of, time_of, keys_of, mode_of, matte_of, plain_layer_of, plain_comp_of, plain_of_data};
+ghost use Rattle.project_json.specs.PlainData.{count_of, text_of, depth_of, time_of, keys_of, mode_of, matte_of, plain_clip_of, plain_layer_of, plain_comp_of, plain_of_data};
 
-use crate::parts::{count_in, items_in, items_of, whole_in};
+use crate::parts::{byte_in, count_in, items_in, items_of, whole_in};
 use crate::reads::{
-    NO_SOLID, ZERO_TIME, constant_key, key_in, matte_in, mode_in, source_in, time_in,
+    NO_INDEX, NO_SOLID, ZERO_TIME, constant_key, key_in, matte_in, mode_in, source_in, time_in,
 };
 use host_io::Memory;
 use param_stream::Keyframe;
-use project_model::{Collection, FULL_OPACITY, Item, PlainComp, PlainLayer, PlainProject};
+use project_model::{
+    ClipUse, Collection, FULL_OPACITY, Item, PlainComp, PlainLayer, PlainProject, Text,
+};
 use rational_time::Time;
 use serde_json::Value;
 use std::alloc::Global;
 use track_matte::Matte;
 use transfer_mode::Mode;
-
-/// An index that names no composition.
-const NO_INDEX: u32 = 4_294_967_295;
 
 /// The count in the member of that name.
 fn count_of(value: &Value, name: &str, other: u32) -> u32
@@ -28,6 +27,27 @@ fn count_of(value: &Value, name: &str, other: u32) -> u32
     match value.get(name) {
         Some(count) => count_in(count).unwrap_or(other),
         None => other,
+    }
+}
+
+/// The text in the member of that name, empty where there is none.
+fn text_of(alloc: Global, value: &Value, name: &str) -> Result<Text, Memory>
+    ensures { IfOk result (λ text. text ≡ text_of name.now (view value.now)) }
+{
+    let text = match value.get(name) {
+        Some(text) => text.as_str().unwrap_or(""),
+        None => "",
+    };
+    Ok(Text::from_string(String::from_str(alloc, text)?))
+}
+
+/// The depth of a clip, 0 where there is none from 0 to 255.
+fn depth_of(clip: &Value) -> u8
+    ensures { result ≡ depth_of (view clip.now) }
+{
+    match clip.get("depth") {
+        Some(depth) => byte_in(depth).unwrap_or(0),
+        None => 0,
     }
 }
 
@@ -149,6 +169,29 @@ fn each_layer(alloc: Global, layers: &[Value]) -> Result<Vec<PlainLayer>, Memory
     Ok(plain)
 }
 
+fn plain_clip(alloc: Global, clip: &Value) -> Result<ClipUse, Memory>
+    ensures { IfOk result (λ plain. plain ≡ plain_clip_of (view clip.now)) }
+{
+    Ok(ClipUse {
+        name: text_of(alloc, clip, "name")?,
+        width: count_of(clip, "width", 0),
+        height: count_of(clip, "height", 0),
+        depth: depth_of(clip),
+        frame: time_of(clip, "frame"),
+        frames: count_of(clip, "frames", 0),
+    })
+}
+
+fn each_clip(alloc: Global, clips: &[Value]) -> Result<Vec<ClipUse>, Memory>
+    ensures { IfOk result (λ plain. plain.items ≡ map (λ clip. plain_clip_of (view clip)) clips.now) }
+{
+    let mut plain = Vec::new(alloc);
+    for clip in clips {
+        plain.push(plain_clip(alloc, clip)?)?;
+    }
+    Ok(plain)
+}
+
 fn plain_comp(alloc: Global, comp: &Value) -> Result<PlainComp, Memory>
     ensures { IfOk result (λ plain. plain ≡ plain_comp_of (view comp.now)) }
 {
@@ -177,10 +220,12 @@ fn each_comp(alloc: Global, comps: &[Value]) -> Result<Vec<PlainComp>, Memory>
 pub(crate) fn plain_project(alloc: Global, top: &Value) -> Result<PlainProject, Memory>
     ensures { IfOk result (λ plain. plain ≡ plain_of_data (view top.now)) }
 {
+    let clips = each_clip(alloc, items_of(top, "clips"))?;
     let comps = each_comp(alloc, items_of(top, "comps"))?;
     Ok(PlainProject {
         depth: count_of(top, "depth", 0),
         root: count_of(top, "root", NO_INDEX),
+        clips: Collection::from_vec(clips),
         comps: Collection::from_vec(comps),
     })
 }

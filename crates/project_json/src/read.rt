@@ -4,7 +4,7 @@ ghost use Rattle.project_model.specs.Plain.{plain_of};
 ghost use Rattle.project_model.specs.Sound.{IsSound};
 ghost use Rattle.project_json.specs.Json.{json_of};
 ghost use Rattle.project_json.specs.Reading.{project_of, IsRefusal};
-ghost use Rattle.project_json.specs.Worked.{TwoPixelsAreRead};
+ghost use Rattle.project_json.specs.Worked.{TwoPixelsAreRead, NestedClipIsRead};
 
 use crate::ProjectError;
 use crate::places::check_form;
@@ -33,35 +33,40 @@ fn value_of(alloc: Global, bytes: &[u8]) -> Result<Value, ProjectError>
 /// Reads a project from its JSON, whose form and rules are this project's own.
 ///
 /// It is an object of the names `version`, `depth`, `root`, `clips` and `comps`. `version` is 1, `depth` the bits of a channel,
-/// 8 or 16, `root` the index of the composition that is rendered, and `comps` the array of compositions.
+/// 8 or 16, `root` the index of the composition that is rendered, `clips` the array of clips, none where it is absent, and
+/// `comps` the array of compositions.
 ///
+/// - A clip is an object of the names `name`, `width`, `height`, `depth`, `frame` and `frames`: the name of its file, its sides,
+///   the bits of a channel, the length of a frame as a time, and how many frames it has.
 /// - A composition is an object of the names `width`, `height`, `frame`, `frames` and `layers`: its sides, the length of a frame
 ///   as a time, how many frames it has, and the array of its layers, the topmost first.
-/// - A layer is an object with `source`, `{"solid":[width,height,alpha,red,green,blue]}`, and no names but `start`, `in`,
-///   `out`, `mode`, `matte`, `opacity`, `x`, `y` and `effects`. `start` and `in` are times, zero seconds where they are absent.
+/// - A layer is an object with `source` and no names but `start`, `in`, `out`, `mode`, `matte`, `opacity`, `x`, `y` and
+///   `effects`. `source` is `{"solid":[width,height,alpha,red,green,blue]}`, or `{"clip":index}` or `{"comp":index}` with the
+///   index of a clip or of a composition, which is then nested. `start` and `in` are times, zero seconds where they are absent.
 ///   `out` is a time, the composition's end where it is absent. `mode` is the name of a mode (see [`transfer_mode::Mode`]) and
-///   `matte` that of a matte (see [`track_matte::Matte`]), `"Normal"` and `"None"` where they are absent. `opacity`, `x` and `y` are streams, 10,000, 0 and 0 where they
-///   are absent.
+///   `matte` that of a matte (see [`track_matte::Matte`]), `"Normal"` and `"None"` where they are absent. `opacity`, `x` and
+///   `y` are streams, 10,000, 0 and 0 where they are absent.
 /// - A time is `[value, scale]`, which is value / scale seconds. A stream is a number, which is its value at every time, or an
 ///   array of keyframes `[value, time, kind]`, whose kind is `"hold"`, `"linear"` or `"ease"`.
 /// - Of a name that stands twice in an object the last value counts.
 ///
 /// A project that breaks a rule is refused by the broken rule with the least number, at its first place: the project outside
-/// its compositions, then each composition, first outside its layers, and then its layers in order. Each rule speaks of what
-/// those before it have let through.
+/// its compositions, its clips included, then each composition, first outside its layers, and then its layers in order. Each
+/// rule speaks of what those before it have let through.
 ///
-/// - 0: no object, at any depth, has a name `clips`, `clip`, `comp` or `effects`; there is at most one composition. These parts
-///   are not built yet.
+/// - 0: no object, at any depth, has a member named `effects`. These are not built yet.
 /// - 1: each number, at any depth, is a whole number from -2^63 to 2^63-1, written without fraction or exponent.
 /// - 2: the value is an object of no names but the five.
 /// - 3, 4: `version` is there and 1; `depth` is there and 8 or 16.
+/// - 5: `clips`, where it is there, is an array of at most 64 objects, each of exactly the six names (place: the project).
 /// - 6: `comps` is there and an array of 1 to 64 objects (place: the project), each of exactly the five names (place: the
 ///   composition).
 /// - 7: `layers` is an array of at most 128 objects (place: the composition), each with `source` and no names but the ten.
 /// - 8: there are at most 1,024 layers in all.
 /// - 9: `source` is an object of exactly one name, `solid`, `clip` or `comp`.
 /// - 14: a stream is a number, or an array of 1 to 4,096 keyframes, each an array of a number, a time and a kind.
-/// - 15: a time is an array of two numbers, from -2147483648 to 2147483647 and from 1 to 4294967295.
+/// - 15: a time is an array of two numbers, from -2147483648 to 2147483647 and from 1 to 4294967295 (place of the frame of a
+///   clip: the project).
 /// - From 16 on: see [`project_model::Rule`].
 ///
 /// The error is `NotJson` where the bytes are no UTF-8 or have no reading as JSON, which arrays and objects nested more than 127
@@ -81,4 +86,9 @@ pub fn read_project(alloc: Global, bytes: &[u8]) -> Result<Project, ProjectError
 /// One composition of two pixels with one solid is read as this project's own form says.
 pub fn two_pixels_are_read()
     ensures { TwoPixelsAreRead }
+{}
+
+/// A clip in a composition that another one nests is read as this project's own form says.
+pub fn nested_clip_is_read()
+    ensures { NestedClipIsRead }
 {}

@@ -1,7 +1,7 @@
 ghost use Rattle.std.specs.Prelude.{◌≡◌, Some, unwrap_or};
 ghost use Rattle.serde_json.specs.View.{view};
 ghost use Rattle.project_model.specs.Constant.{constant_key, zero_time};
-ghost use Rattle.project_json.specs.Reads.{time_from, time_in, kind_named, kind_in, mode_in, matte_in, key_in, solid_from_items, solid_in, source_in, no_solid};
+ghost use Rattle.project_json.specs.Reads.{time_from, time_in, kind_named, kind_in, mode_in, matte_in, key_in, solid_from_items, solid_in, index_in, source_in, no_solid};
 ghost use Rattle.project_json.specs.Parts.{items_in};
 
 use crate::parts::{count_in, items_in, whole_in};
@@ -24,6 +24,9 @@ pub(crate) const NO_SOLID: Item = Item::Solid {
     g: 0,
     b: 0,
 };
+
+/// An index that names nothing: no project has so many clips or compositions.
+pub(crate) const NO_INDEX: u32 = 4_294_967_295;
 
 fn time_from(value: i64, scale: u32) -> Option<Time>
     ensures { result ≡ time_from (Some value) (Some scale) }
@@ -127,12 +130,24 @@ fn solid_in(value: &Value) -> Item
     solid_from(value).unwrap_or(NO_SOLID)
 }
 
-/// `{"solid": ..}`
+/// A whole number from 0 to 2^32-1, or an index that names nothing.
+fn index_in(value: &Value) -> u32
+    ensures { result ≡ index_in (view value.now) }
+{
+    count_in(value).unwrap_or(NO_INDEX)
+}
+
+/// `{"solid": ..}`, `{"clip": index}` or `{"comp": index}`
 pub(crate) fn source_in(value: &Value) -> Item
     ensures { result ≡ source_in (view value.now) }
 {
-    match value.get("solid") {
-        Some(solid) => solid_in(solid),
-        None => NO_SOLID,
+    if let Some(solid) = value.get("solid") {
+        solid_in(solid)
+    } else if let Some(clip) = value.get("clip") {
+        Item::Clip(index_in(clip))
+    } else if let Some(comp) = value.get("comp") {
+        Item::Comp(index_in(comp))
+    } else {
+        NO_SOLID
     }
 }

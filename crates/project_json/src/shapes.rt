@@ -3,9 +3,9 @@ ghost use Rattle.std.specs.List.{list_all};
 ghost use Rattle.serde_json.specs.Find.{get};
 ghost use Rattle.serde_json.specs.View.{view};
 ghost use Rattle.project_model.specs.Bounds.{is_among, most_keys};
-ghost use Rattle.project_json.specs.Parts.{is_there, where_there, names_in};
+ghost use Rattle.project_json.specs.Parts.{where_there, names_in};
 ghost use Rattle.project_json.specs.PlainData.{items_of};
-ghost use Rattle.project_json.specs.FormRules.{are_key_parts, is_keyframe, is_stream, is_time, has_time_second, key_has_time, is_source, source_names};
+ghost use Rattle.project_json.specs.FormRules.{are_key_parts, is_keyframe, is_stream, is_time, has_frame, has_time_second, key_has_time, is_source, source_names};
 
 use crate::parts::{has_only, is_among, items_in, items_of, name_count};
 use crate::reads::{kind_in, time_in};
@@ -55,11 +55,11 @@ fn is_time(value: &Value) -> bool
     time_in(value).is_some()
 }
 
-/// The member of that name is there and is a time.
-pub(crate) fn has_time(value: &Value, name: &str) -> bool
-    ensures { result ≡ is_there is_time (get name.now (view value.now)) }
+/// The frame of a clip, or of a composition, is a time.
+pub(crate) fn has_frame(value: &Value) -> bool
+    ensures { result ≡ has_frame (view value.now) }
 {
-    match value.get(name) {
+    match value.get("frame") {
         Some(time) => is_time(time),
         None => false,
     }
