@@ -4,6 +4,12 @@
 #[cfg(test)]
 mod bases;
 #[cfg(test)]
+mod clips;
+#[cfg(test)]
+mod nested;
+#[cfg(test)]
+mod plain;
+#[cfg(test)]
 mod rules;
 #[cfg(test)]
 mod streams;

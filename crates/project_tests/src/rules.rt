@@ -1,5 +1,5 @@
-//! The rules on a project's numbers, through `Project::of_plain` and `check`, with places in a second composition, which no
-//! text may have yet. All answers were worked by hand.
+//! The rules on the numbers of compositions, through `Project::of_plain` and `check`, with places in a second composition. All
+//! answers were worked by hand.
 
 use param_stream::{Ease, Keyframe};
 use project_model::{
@@ -107,6 +107,7 @@ fn made(alloc: Global, sample: Sample) -> Result<Result<Project, CheckError>, Fa
     let plain = PlainProject {
         depth: sample.depth,
         root: sample.root,
+        clips: Collection::from_vec(Vec::new(alloc)),
         comps: Collection::from_vec(comps),
     };
     if !plain.is_formed() {
@@ -141,7 +142,7 @@ fn a_project_that_keeps_the_rules_is_made(rt: HostRuntime) -> Result<(), Fail> {
         (project.base.ticks, project.comps.as_slice().len()),
         (24, 2)
     );
-    assert_eq!(rt; check(rt.alloc(), &project), Ok(()));
+    assert_eq!(rt; check(rt.alloc(), &project).err(), None);
     Ok(())
 }
 
@@ -154,11 +155,14 @@ fn a_project_in_hand_is_checked(rt: HostRuntime) -> Result<(), Fail> {
         ..kept()
     };
     let mut project = made(alloc, wide)?.map_err(|_| "a project")?;
-    assert_eq!(rt; check(alloc, &project), Ok(()));
+    assert_eq!(rt; check(alloc, &project).err(), None);
     project.depth = 8;
-    assert_eq!(rt; check(alloc, &project), Err(broken(27, Some(1), Some(2))));
+    assert_eq!(rt;
+        check(alloc, &project).err(),
+        Some(broken(27, Some(1), Some(2)))
+    );
     project.root = 2;
-    assert_eq!(rt; check(alloc, &project), Err(broken(16, None, None)));
+    assert_eq!(rt; check(alloc, &project).err(), Some(broken(16, None, None)));
     Ok(())
 }
 

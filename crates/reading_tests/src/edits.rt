@@ -18,6 +18,22 @@ pub(crate) const ONE_LAYER: &str =
 pub(crate) const TWO_PAIRS: &str =
     "{\"version\":1,\"depth\":16,\"root\":0,\"comps\":[{\"width\":1,\"height\":1,\"frame\":[1,24],\"frames\":1,\"layers\":[{\"source\":{\"solid\":[1,1,1,0,0,0]}},{\"source\":{\"solid\":[1,1,2,0,0,0]},\"matte\":\"Alpha\"},{\"source\":{\"solid\":[1,1,3,0,0,0]}},{\"source\":{\"solid\":[1,1,4,0,0,0]},\"matte\":\"LumaInverted\"}]}]}";
 
+/// One composition with one clip of two frames.
+pub(crate) const ONE_CLIP: &str =
+    "{\"version\":1,\"depth\":8,\"root\":0,\"clips\":[{\"name\":\"a.afr\",\"width\":1,\"height\":1,\"depth\":8,\"frame\":[1,24],\"frames\":2}],\"comps\":[{\"width\":1,\"height\":1,\"frame\":[1,24],\"frames\":3,\"layers\":[{\"source\":{\"clip\":0}}]}]}";
+
+/// Two clips and two compositions: the second one nests the first, and each has a layer of a clip.
+pub(crate) const TWO_CLIPS: &str =
+    "{\"version\":1,\"depth\":8,\"root\":1,\"clips\":[{\"name\":\"a.afr\",\"width\":3,\"height\":1,\"depth\":8,\"frame\":[1,25],\"frames\":2},{\"name\":\"b.afr\",\"width\":5,\"height\":4,\"depth\":16,\"frame\":[1,30],\"frames\":7}],\"comps\":[{\"width\":2,\"height\":1,\"frame\":[1,24],\"frames\":1,\"layers\":[{\"source\":{\"solid\":[2,1,255,10,20,30]}},{\"source\":{\"clip\":1}}]},{\"width\":6,\"height\":1,\"frame\":[1,24],\"frames\":8,\"layers\":[{\"source\":{\"comp\":0}},{\"source\":{\"clip\":0}}]}]}";
+
+/// A composition of four frames of one pixel, and another that nests it two frames later.
+pub(crate) const NESTED: &str =
+    "{\"version\":1,\"depth\":8,\"root\":1,\"comps\":[{\"width\":1,\"height\":1,\"frame\":[1,24],\"frames\":4,\"layers\":[{\"source\":{\"solid\":[1,1,100,100,0,0]}}]},{\"width\":1,\"height\":1,\"frame\":[1,24],\"frames\":4,\"layers\":[{\"source\":{\"comp\":0},\"start\":[2,24]}]}]}";
+
+/// Three compositions: each nests the next, and the last has two solids.
+pub(crate) const THREE_COMPS: &str =
+    "{\"version\":1,\"depth\":8,\"root\":0,\"comps\":[{\"width\":1,\"height\":1,\"frame\":[1,24],\"frames\":1,\"layers\":[{\"source\":{\"comp\":1}}]},{\"width\":2,\"height\":1,\"frame\":[1,24],\"frames\":1,\"layers\":[{\"source\":{\"comp\":2}}]},{\"width\":3,\"height\":1,\"frame\":[1,24],\"frames\":1,\"layers\":[{\"source\":{\"solid\":[1,1,9,9,9,9]}},{\"source\":{\"solid\":[1,1,8,8,8,8]}}]}]}";
+
 /// What stands in a text, and what takes its place.
 pub(crate) type Edit = (&'static str, &'static str);
 

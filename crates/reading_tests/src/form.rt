@@ -82,22 +82,24 @@ fn keyframes_have_a_bound(rt: HostRuntime) -> Result<(), Fail> {
     Ok(())
 }
 
-/// Parts that are not built yet.
+/// Effects are not built yet.
 const UNBUILT: &[Row] = &[
-    ("\"comps\":[", "\"comps\":[{},", 0),
-    ("\"comps\":[", "\"comps\":[7,", 0),
-    ("{\"version\"", "{\"clips\":[],\"version\"", 0),
-    ("{\"solid\":[2,1,255,10,20,30]}", "{\"clip\":0}", 0),
-    ("{\"solid\":[2,1,255,10,20,30]}", "{\"comp\":0}", 0),
     ("\"start\":[0,1]", "\"effects\":[]", 0),
-    ("[2,1,255,10,20,30]", "[[{},{\"x\":[{\"comp\":0}]}]]", 0),
+    ("{\"version\"", "{\"effects\":0,\"version\"", 0),
+    ("{\"width\"", "{\"effects\":[],\"width\"", 0),
+    ("[2,1,255,10,20,30]", "[[{},{\"x\":[{\"effects\":0}]}]]", 0),
     ("\"linear\"", "{\"effects\":null}", 0),
-    (TWO_LAYERS, "[[[{\"clip\":1.5}]]]", 0),
+    ("{\"solid\"", "{\"\\u0065ffects\":0,\"solid\"", 0),
+    (TWO_LAYERS, "[[[{\"effects\":1.5}]]]", 0),
 ];
 
-/// Modes, mattes, depth 16 and a name `comps` further in pass rule 0.
+/// All other parts pass rule 0.
 const BUILT: &[Row] = &[
     (TWO_LAYERS, "[[[{\"matte\":1.5}]]]", 1),
+    (TWO_LAYERS, "[[[{\"clip\":1.5}]]]", 1),
+    (TWO_LAYERS, "[\"effects\"]", 2),
+    ("{\"version\"", "{\"effect\":[],\"version\"", 2),
+    ("{\"version\"", "{\"Effects\":[],\"version\"", 2),
     (TWO_LAYERS, "[{\"depth\":16,\"comps\":[1,2]}]", 2),
     ("{\"version\"", "{\"mode\":\"Normal\",\"version\"", 2),
     (TWO_LAYERS, "{\"depth\":16}", 3),
@@ -151,7 +153,7 @@ const DEPTHS: &[Row] = &[
     ("\"depth\":8", "\"depth\":\"16\"", 4),
 ];
 
-/// No compositions.
+/// What are no compositions.
 const COMPOSITIONS: &[Row] = &[
     (TWO_LAYERS, "{\"version\":1,\"depth\":8}", 6),
     (
@@ -169,6 +171,8 @@ const COMPOSITIONS: &[Row] = &[
         "{\"version\":1,\"depth\":8,\"root\":0,\"comps\":[1]}",
         6,
     ),
+    ("\"comps\":[", "\"comps\":[7,", 6),
+    ("\"comps\":[", "\"comps\":[[],", 6),
 ];
 
 #[test]
@@ -184,6 +188,7 @@ fn rules_broken_in_the_project(rt: HostRuntime) -> Result<(), Fail> {
 
 /// Other names of a composition, and layers that are none.
 const NAMES: &[Row] = &[
+    ("\"comps\":[", "\"comps\":[{},", 6),
     ("\"width\":2,", "", 6),
     ("\"height\":1,", "", 6),
     ("\"frame\":[1,24],", "", 6),
@@ -215,12 +220,17 @@ fn rules_broken_in_a_composition(rt: HostRuntime) -> Result<(), Fail> {
     refuses(&rt, alloc, TWO_LAYERS, Place::Comp(0), FRAMES)
 }
 
-/// The same in the first layer.
-const MODE_IN_A_SOLID: &[Row] = &[("[2,1,255,10,20,30]", "[[{},{\"x\":[{\"mode\":0}]}]]", 27)];
+/// Names of parts in a solid.
+const BUILT_IN_A_SOLID: &[Row] = &[
+    ("[2,1,255,10,20,30]", "[[{},{\"x\":[{\"mode\":0}]}]]", 27),
+    ("[2,1,255,10,20,30]", "[[{},{\"x\":[{\"comp\":0}]}]]", 27),
+    ("[2,1,255,10,20,30]", "\"clips\"", 27),
+];
 
-/// The same in the second layer, and values that are names of unbuilt parts.
+/// The same in the second layer.
 const BUILT_IN_A_LAYER: &[Row] = &[
     ("\"start\":[0,1]", "\"comps\":[1,2]", 7),
+    ("\"start\":[0,1]", "\"effect\":[]", 7),
     ("\"y\":-2", "\"y\":{\"comps\":[1,2]}", 14),
     ("\"y\":-2", "\"y\":\"clip\"", 14),
     ("\"start\":[0,1]", "\"mode\":\"effects\"", 31),
@@ -234,6 +244,14 @@ const FIRST_LAYER: &[Row] = &[
     ("{\"solid\":[2,1,255,10,20,30]}", "[2,1,255,10,20,30]", 9),
     ("{\"solid\":[2,1,255,10,20,30]}", "{}", 9),
     ("{\"solid\"", "{\"color\"", 9),
+    ("{\"solid\":[2", "{\"clip\":0,\"solid\":[2", 9),
+    ("{\"solid\":[2", "{\"comp\":0,\"solid\":[2", 9),
+    (
+        "{\"solid\":[2,1,255,10,20,30]}",
+        "{\"clip\":0,\"comp\":0}",
+        9,
+    ),
+    ("{\"solid\":[2,1,255,10,20,30]}", "{\"Clip\":0}", 9),
     (
         "{\"source\":{\"solid\":[2",
         "{\"x\":[1],\"source\":{\"solid\":[2",
@@ -279,7 +297,7 @@ const TIMES: &[Row] = &[
 #[test]
 fn rules_broken_in_a_layer(rt: HostRuntime) -> Result<(), Fail> {
     let alloc = rt.alloc();
-    refuses(&rt, alloc, TWO_LAYERS, Place::Layer(0, 0), MODE_IN_A_SOLID)?;
+    refuses(&rt, alloc, TWO_LAYERS, Place::Layer(0, 0), BUILT_IN_A_SOLID)?;
     refuses(&rt, alloc, TWO_LAYERS, Place::Layer(0, 1), BUILT_IN_A_LAYER)?;
     refuses(&rt, alloc, TWO_LAYERS, Place::Layer(0, 0), FIRST_LAYER)?;
     refuses(&rt, alloc, TWO_LAYERS, Place::Layer(0, 1), SECOND_LAYER)?;
