@@ -3,7 +3,7 @@
 ghost use Rattle.std.specs.Prelude.{None};
 
 use crate::files::{alone, declared, file, three, worked};
-use argb_pixel::Pixel;
+use argb_pixel::{Pixel, Transparent};
 use frame_file::{Clip, ClipError, LoadError, load_clips, read_clip};
 use host_io::{ClipStore, Failed, MemClips};
 use std::alloc::Global;
@@ -209,6 +209,28 @@ fn clips_are_loaded_in_order(rt: HostRuntime) -> Result<(), Fail> {
     Ok(())
 }
 
+// A refused clip before one whose length would fail.
+#[test]
+fn nothing_is_asked_for_behind_a_refused_clip(rt: HostRuntime) -> Result<(), Fail> {
+    let uses = three(rt.alloc())?;
+    for (fails, why) in [
+        (1, LoadError::Fault { index: 0 }),
+        (
+            2,
+            LoadError::Refused {
+                index: 0,
+                why: ClipError::BadMagic,
+            },
+        ),
+    ] {
+        let bytes = changed(rt.alloc(), 37, &[(3, b'2')])?;
+        let mut store = store_of(rt.alloc(), "a.afr", bytes, fails)?;
+        let loaded = fault(load_clips(rt.alloc(), &mut store, &uses));
+        assert_eq!(rt; loaded, Some(why), "where call {fails} fails");
+    }
+    Ok(())
+}
+
 // The channels of a pixel.
 fn channels<const MAX: u32>(pixel: Pixel<MAX>) -> (u32, u32, u32, u32) {
     (pixel.a(), pixel.r(), pixel.g(), pixel.b())
@@ -247,6 +269,28 @@ fn pixels_of_16_bits_are_read_in_both_depths(rt: HostRuntime) -> Result<(), Fail
     );
     assert_eq!(rt; channels(clip.pixel::<255>(0, 0, 0)), (255, 128, 0, 0));
     assert_eq!(rt; channels(clip.pixel::<255>(0, 0, 1)), (128, 128, 1, 0));
+    Ok(())
+}
+
+#[test]
+fn rows_are_read_in_both_depths(rt: HostRuntime) -> Result<(), Fail> {
+    let eight = declared(rt.alloc(), "a.afr", 2, 2, 8, 2)?;
+    let pixels = [
+        0, 0, 0, 0, 0, 0, 0, 0, 0, 0, 0, 0, 0, 0, 0, 0, 0, 0, 0, 0, 0, 0, 0, 0, 9, 8, 7, 6, 128,
+        128, 0, 1,
+    ];
+    let bytes = file(rt.alloc(), &eight, 0, &pixels)?;
+    let clip = read_clip(rt.alloc(), &bytes, &eight)?;
+    let mut row = [Pixel::<255>::CLEAR; 2];
+    clip.read_row(1, 1, &mut row);
+    assert_eq!(rt; channels(row[0]), (9, 8, 7, 6));
+    assert_eq!(rt; channels(row[1]), (128, 128, 0, 1));
+    clip.read_row(1, 0, &mut row);
+    assert_eq!(rt; channels(row[0]), (0, 0, 0, 0));
+    assert_eq!(rt; channels(row[1]), (0, 0, 0, 0));
+    let mut deep = [Pixel::<32768>::CLEAR; 2];
+    clip.read_row(1, 1, &mut deep);
+    assert_eq!(rt; channels(deep[1]), (16448, 16448, 0, 129));
     Ok(())
 }
 

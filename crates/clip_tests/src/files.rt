@@ -2,7 +2,7 @@
 
 ghost use Rattle.std.specs.Prelude.{◌≡◌, ◌*◌, ◌≤◌, ◌⊎◌, IfOk};
 ghost use Rattle.std.specs.List.{All};
-ghost use Rattle.frame_file.specs.Clip.{IsReadable};
+ghost use Rattle.project_model.specs.Clip.{IsReadable};
 
 use frame_file::{Header, header_bytes};
 use project_model::{ClipUse, Text};

@@ -2,8 +2,9 @@
 use Rattle.std.proofs.Common.{◌≡◌, ℕ, ◌≤◌, false, List, length, drop, None, Ok, Err, ap, ◌∙◌, arith, nat_lt}
 use Rattle.std.proofs.lemmas.Bool.Decides.{nat_tests}
 use Rattle.project_model.specs.declared.clip.ClipUse.{ClipUse}
-use Rattle.project_model.specs.Bounds.{most_of}
-use Rattle.frame_file.specs.Clip.{judged_body, judged_pixels, clip_length, is_short, header_length, pictures_of, pixels_of, first_bad}
+use Rattle.project_model.specs.Bounds.{most_of, header_length}
+use Rattle.project_model.specs.Clip.{clip_length}
+use Rattle.frame_file.specs.Clip.{judged_body, judged_pixels, is_short, pictures_of, pixels_of, first_bad}
 use Rattle.frame_file.specs.declared.error.ClipError.{ClipError}
 
 is_whole : (there n want : ℕ) → want ≤ n → there ≤ want → is_short there n want ≡ false

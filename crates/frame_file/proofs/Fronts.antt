@@ -6,7 +6,9 @@ use Rattle.std.proofs.lemmas.Bool.{cases_order}
 use Rattle.std.proofs.lemmas.List.{length-take-le, drop-take, take-take, take_all, take-append-drop}
 use Rattle.host_io.specs.Clips.{ClipMap, bytes_at, EndsThere}
 use Rattle.project_model.specs.declared.clip.ClipUse.{ClipUse}
-use Rattle.frame_file.specs.Clip.{Pictures, judged, judged_body, clip_of, clip_length, differs, header_fault, is_short, header_length}
+use Rattle.project_model.specs.Bounds.{header_length}
+use Rattle.project_model.specs.Clip.{clip_length}
+use Rattle.frame_file.specs.Clip.{Pictures, judged, judged_body, clip_of, differs, header_fault, is_short}
 use Rattle.frame_file.specs.Load.{IsFront, AddsFrom}
 use Rattle.frame_file.specs.declared.error.ClipError.{ClipError}
 use Rattle.frame_file.specs.declared.error.ClipError.TheVariants.{BadMagic, BadHeader, Trailing}

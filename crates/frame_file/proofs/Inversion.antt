@@ -2,9 +2,10 @@
 use Rattle.std.proofs.Common.{◌≡◌, ℕ, ◌≤◌, Bool, true, false, cond, List, length, drop, Option, Some, None, Result, Ok, Err, refl, arith, codes, nat_lt}
 use Rattle.std.proofs.lemmas.Bool.Decides.{nat_tests}
 use Rattle.project_model.specs.declared.clip.ClipUse.{ClipUse}
-use Rattle.project_model.specs.Bounds.{most_of}
+use Rattle.project_model.specs.Bounds.{most_of, header_length}
 use Rattle.argb_pixel.specs.Pixel.{Argb}
-use Rattle.frame_file.specs.Clip.{Pictures, judged, judged_body, judged_pixels, clip_length, differs, header_fault, is_short, header_length, pictures_of, pixels_of, first_bad}
+use Rattle.project_model.specs.Clip.{clip_length}
+use Rattle.frame_file.specs.Clip.{Pictures, judged, judged_body, judged_pixels, differs, header_fault, is_short, pictures_of, pixels_of, first_bad}
 use Rattle.frame_file.specs.declared.error.ClipError.{ClipError}
 
 -- no test refused

@@ -1,15 +1,18 @@
 -- Clips in order, one by one.
 use Rattle.std.proofs.Common.{◌≡◌, ℕ, ◌+◌, ◌<◌, get_or, min, List, [], ◌∷◌, ◌++◌, length, take, slice_get, Option, Some, None, Result, Ok, Err, refl, sym, ap, subst, ◌∙◌, arith}
 use Rattle.std.proofs.lemmas.List.{take_more}
+use Rattle.std.specs.List.{AllZip}
 use Rattle.std.specs.Option.{option_map, unwrap_or}
 use Rattle.host_io.specs.Clips.{ClipMap, AnswersLength}
 use Rattle.project_model.specs.declared.clip.ClipUse.{ClipUse}
-use Rattle.frame_file.specs.Clip.{Pictures, judged, clip_length}
+use Rattle.project_model.specs.Clip.{clip_length}
+use Rattle.frame_file.specs.Clip.{Pictures, judged, pictures_of}
 use Rattle.frame_file.specs.Load.{Judges, IsFront, IsMissing, AreRead, Loads, LoadsOne}
 use Rattle.frame_file.specs.declared.error.ClipError.{ClipError}
 use Rattle.frame_file.specs.declared.error.LoadError.{LoadError}
 use Rattle.frame_file.specs.declared.error.LoadError.TheVariants.{Fault, Missing, Refused, Memory}
 use Rattle.frame_file.proofs.Fronts.{judged_front}
+use Rattle.frame_file.proofs.Inversion.{is_read}
 
 -- one more clip
 pub read_more : (store : Option ClipMap) (uses : List ClipUse) (clips : List Pictures) (declared : ClipUse) (clip : Pictures) → AreRead store uses clips → Judges store declared (Ok clip) → AreRead store (uses ++ declared ∷ []) (clips ++ clip ∷ [])
@@ -73,3 +76,19 @@ read_next store later uses clips now index declared clip h e a k j n =
     let C : List Pictures → Type 0 = λ cs. AreRead store (take (index + 1) uses) cs in
     let whole : take index uses ++ declared ∷ [] ≡ take (index + 1) uses = ap (λ d. take index uses ++ d ∷ []) e ∙ sym (take_more uses index declared h) in
     subst C (sym n) (subst U whole (read_more store (take index uses) clips declared clip a (subst J k j)))
+
+-- a clip that was read has the sides, the depth and the count that are declared
+shape : (there : ℕ) (bytes : List ℕ) (declared : ClipUse) (clip : Pictures) → judged there bytes declared ≡ Ok clip → clip ≡ pictures_of declared clip.pixels
+shape there bytes declared clip j =
+    let h = (is_read there bytes declared clip j).pictures in
+    h ∙ ap (pictures_of declared) (sym (ap (λ (c : Pictures). c.pixels) h))
+
+shaped : (store : Option ClipMap) (declared : ClipUse) (clip : Pictures) → Judges store declared (Ok clip) → clip ≡ pictures_of declared clip.pixels
+shaped (Some clips) declared clip j = shape (length j.0) j.0 declared clip j.2
+shaped None declared clip j = shape j.0 j.1 declared clip j.3
+
+pub all_shaped : (store : Option ClipMap) (uses : List ClipUse) (clips : List Pictures) → AreRead store uses clips → AllZip (λ declared clip. clip ≡ pictures_of declared clip.pixels) uses clips
+all_shaped store [] [] h = tt
+all_shaped store [] (c ∷ clips) h = absurd h
+all_shaped store (u ∷ uses) [] h = absurd h
+all_shaped store (u ∷ uses) (c ∷ clips) h = (shaped store u c h.0, all_shaped store uses clips h.1)

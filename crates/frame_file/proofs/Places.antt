@@ -2,8 +2,9 @@
 use Rattle.std.proofs.Common.{◌≡◌, ℕ, ◌+◌, ◌-◌, ◌*◌, ◌<◌, ◌≤◌, ◌≢◌, ◌⊎◌, inl, inr, List, ◌∷◌, length, take, drop, get_or, None, sym, ap, subst, ◌∙◌, arith, length-drop}
 use Rattle.std.proofs.Math.Nat.{mul-le-mul_left}
 use Rattle.argb_pixel.specs.Pixel.{Argb, IsPremultiplied, clear}
-use Rattle.project_model.specs.Bounds.{most_of}
-use Rattle.frame_file.specs.Clip.{pixels_of, pixels_of_8, pixels_of_16, head_of_8, head_of_16, first_bad, in_depth, header_length, pixel_size}
+use Rattle.project_model.specs.Bounds.{most_of, header_length}
+use Rattle.project_model.specs.Clip.{pixel_size}
+use Rattle.frame_file.specs.Clip.{pixels_of, pixels_of_8, pixels_of_16, head_of_8, head_of_16, first_bad, in_depth}
 use Rattle.frame_file.proofs.Scan.{next_8, next_16, from_8, from_16, found_at, sound_at, rest_is}
 
 -- a point of a picture is a pixel of the clip
@@ -87,3 +88,69 @@ shown_16 most xs ys depth p q pixel result e s same h is made =
 pub else_16 : (depth : ℕ) → (depth ≡ 8) ⊎ (depth ≡ 16) → depth ≢ 8 → depth ≡ 16
 else_16 depth (inl e) n = absurd (n e)
 else_16 depth (inr e) n = e
+
+-- a pixel of 8 bits behind the header, at a place among all
+pub sound_in_8 : (pixels : List ℕ) (n : ℕ) → n * 4 + 4 ≤ length pixels → first_bad 255 (pixels_of_8 pixels) ≡ None → IsPremultiplied 255 (head_of_8 (take (length pixels - n * 4) (drop (n * 4) pixels)))
+sound_in_8 pixels n room sound =
+    let P : List ℕ → Type 0 = λ zs. IsPremultiplied 255 (head_of_8 zs) in
+    subst P (sym (rest_is (n * 4) pixels)) (sound_at 255 n _ _ _ sound (at_8 pixels n room))
+
+pub read_at_8 : (most : ℕ) (pixels : List ℕ) (n : ℕ) (pixel result : Argb) → n * 4 + 4 ≤ length pixels → pixel ≡ head_of_8 (take (length pixels - n * 4) (drop (n * 4) pixels)) → result ≡ in_depth 255 most pixel → result ≡ in_depth 255 most (get_or (pixels_of_8 pixels) n clear)
+read_at_8 most pixels n pixel result room is made =
+    made ∙ ap (in_depth 255 most) (is ∙ ap head_of_8 (rest_is (n * 4) pixels) ∙ sym (found_at n _ _ _ (at_8 pixels n room)))
+
+-- the bytes behind the header, as a slice of all
+pub row_room_8 : (xs ys : List ℕ) (depth picture frames w h y start long : ℕ) → depth ≡ 8 → ys ≡ xs → picture < frames → y < h → start ≡ (picture * h + y) * w → long ≡ w
+    → length xs ≡ header_length + frames * (w * h) * pixel_size depth → (start + long) * 4 ≤ length (behind header_length ys)
+row_room_8 xs ys depth picture frames w h y start long e s p r is l all =
+    let more : picture + 1 ≤ frames = omega arith in
+    let rows : picture * h + y + 1 ≤ frames * h = omega (arith, mul-le-mul_left h more) in
+    let points : w * (picture * h + y + 1) ≤ w * (frames * h) = mul-le-mul_left w rows in
+    let count : length xs ≡ 29 + frames * (w * h) * 4 = all ∙ ap (λ k. header_length + frames * (w * h) * pixel_size k) e in
+    let here : length (behind header_length ys) ≡ length xs - 29 = ap length (rest_is header_length ys ∙ ap (drop header_length) s) ∙ length-drop 29 xs in
+    omega (arith, points, count, here, is, l)
+
+pub row_sound_8 : (xs ys : List ℕ) (depth : ℕ) → depth ≡ 8 → ys ≡ xs → first_bad (most_of depth) (pixels_of depth (drop header_length xs)) ≡ None → first_bad 255 (pixels_of_8 (behind header_length ys)) ≡ None
+row_sound_8 xs ys depth e s sound =
+    let P : ℕ → Type 0 = λ k. first_bad (most_of k) (pixels_of k (drop header_length xs)) ≡ None in
+    ap (λ zs. first_bad 255 (pixels_of_8 zs)) (rest_is header_length ys ∙ ap (drop header_length) s) ∙ subst P e sound
+
+pub row_read_8 : (most : ℕ) (xs ys : List ℕ) (depth n q : ℕ) (pixel : Argb) → depth ≡ 8 → ys ≡ xs → n ≡ q → pixel ≡ in_depth 255 most (get_or (pixels_of_8 (behind header_length ys)) n clear) → pixel ≡ in_depth (most_of depth) most (get_or (pixels_of depth (drop header_length xs)) q clear)
+row_read_8 most xs ys depth n q pixel e s same is =
+    is
+    ∙ ap (λ zs. in_depth 255 most (get_or (pixels_of_8 zs) n clear)) (rest_is header_length ys ∙ ap (drop header_length) s)
+    ∙ ap (λ k. in_depth 255 most (get_or (pixels_of_8 (drop header_length xs)) k clear)) same
+    ∙ ap (λ k. in_depth (most_of k) most (get_or (pixels_of k (drop header_length xs)) q clear)) (sym e)
+
+-- a pixel of 16 bits behind the header, at a place among all
+pub sound_in_16 : (pixels : List ℕ) (n : ℕ) → n * 8 + 8 ≤ length pixels → first_bad 32768 (pixels_of_16 pixels) ≡ None → IsPremultiplied 32768 (head_of_16 (take (length pixels - n * 8) (drop (n * 8) pixels)))
+sound_in_16 pixels n room sound =
+    let P : List ℕ → Type 0 = λ zs. IsPremultiplied 32768 (head_of_16 zs) in
+    subst P (sym (rest_is (n * 8) pixels)) (sound_at 32768 n _ _ _ sound (at_16 pixels n room))
+
+pub read_at_16 : (most : ℕ) (pixels : List ℕ) (n : ℕ) (pixel result : Argb) → n * 8 + 8 ≤ length pixels → pixel ≡ head_of_16 (take (length pixels - n * 8) (drop (n * 8) pixels)) → result ≡ in_depth 32768 most pixel → result ≡ in_depth 32768 most (get_or (pixels_of_16 pixels) n clear)
+read_at_16 most pixels n pixel result room is made =
+    made ∙ ap (in_depth 32768 most) (is ∙ ap head_of_16 (rest_is (n * 8) pixels) ∙ sym (found_at n _ _ _ (at_16 pixels n room)))
+
+-- the bytes behind the header, as a slice of all
+pub row_room_16 : (xs ys : List ℕ) (depth picture frames w h y start long : ℕ) → depth ≡ 16 → ys ≡ xs → picture < frames → y < h → start ≡ (picture * h + y) * w → long ≡ w
+    → length xs ≡ header_length + frames * (w * h) * pixel_size depth → (start + long) * 8 ≤ length (behind header_length ys)
+row_room_16 xs ys depth picture frames w h y start long e s p r is l all =
+    let more : picture + 1 ≤ frames = omega arith in
+    let rows : picture * h + y + 1 ≤ frames * h = omega (arith, mul-le-mul_left h more) in
+    let points : w * (picture * h + y + 1) ≤ w * (frames * h) = mul-le-mul_left w rows in
+    let count : length xs ≡ 29 + frames * (w * h) * 8 = all ∙ ap (λ k. header_length + frames * (w * h) * pixel_size k) e in
+    let here : length (behind header_length ys) ≡ length xs - 29 = ap length (rest_is header_length ys ∙ ap (drop header_length) s) ∙ length-drop 29 xs in
+    omega (arith, points, count, here, is, l)
+
+pub row_sound_16 : (xs ys : List ℕ) (depth : ℕ) → depth ≡ 16 → ys ≡ xs → first_bad (most_of depth) (pixels_of depth (drop header_length xs)) ≡ None → first_bad 32768 (pixels_of_16 (behind header_length ys)) ≡ None
+row_sound_16 xs ys depth e s sound =
+    let P : ℕ → Type 0 = λ k. first_bad (most_of k) (pixels_of k (drop header_length xs)) ≡ None in
+    ap (λ zs. first_bad 32768 (pixels_of_16 zs)) (rest_is header_length ys ∙ ap (drop header_length) s) ∙ subst P e sound
+
+pub row_read_16 : (most : ℕ) (xs ys : List ℕ) (depth n q : ℕ) (pixel : Argb) → depth ≡ 16 → ys ≡ xs → n ≡ q → pixel ≡ in_depth 32768 most (get_or (pixels_of_16 (behind header_length ys)) n clear) → pixel ≡ in_depth (most_of depth) most (get_or (pixels_of depth (drop header_length xs)) q clear)
+row_read_16 most xs ys depth n q pixel e s same is =
+    is
+    ∙ ap (λ zs. in_depth 32768 most (get_or (pixels_of_16 zs) n clear)) (rest_is header_length ys ∙ ap (drop header_length) s)
+    ∙ ap (λ k. in_depth 32768 most (get_or (pixels_of_16 (drop header_length xs)) k clear)) same
+    ∙ ap (λ k. in_depth (most_of k) most (get_or (pixels_of k (drop header_length xs)) q clear)) (sym e)

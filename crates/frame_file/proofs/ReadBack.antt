@@ -6,9 +6,10 @@ use Rattle.std.proofs.lemmas.Bool.Decides.{nat_tests}
 use Rattle.std.proofs.lemmas.Slice.Eq.{bytes_eq-Decides}
 use Rattle.argb_pixel.specs.Pixel.{Argb}
 use Rattle.project_model.specs.declared.clip.ClipUse.{ClipUse}
-use Rattle.project_model.specs.Bounds.{most_of}
+use Rattle.project_model.specs.Bounds.{most_of, header_length}
 use Rattle.frame_file.specs.Afr.{header_bytes, pixel_bytes}
-use Rattle.frame_file.specs.Clip.{Pictures, IsReadable, header_of, differs, header_fault, header_length, clip_of, clip_length, judged_body, pictures_of, pixels_of, pixel_size, first_bad}
+use Rattle.project_model.specs.Clip.{IsReadable, clip_length, pixel_size}
+use Rattle.frame_file.specs.Clip.{Pictures, header_of, differs, header_fault, clip_of, judged_body, pictures_of, pixels_of, first_bad}
 use Rattle.frame_file.specs.Laws.{file_of, AreDeclared}
 use Rattle.frame_file.specs.declared.error.ClipError.{ClipError}
 use Rattle.frame_file.proofs.Bodies.{body_passes}

@@ -8,7 +8,8 @@ use Rattle.std.proofs.lemmas.List.{take-append-drop, drop-drop}
 use Rattle.argb_pixel.specs.Pixel.{Argb}
 use Rattle.project_model.specs.declared.clip.ClipUse.{ClipUse}
 use Rattle.frame_file.specs.Afr.{pixel_bytes}
-use Rattle.frame_file.specs.Clip.{Pictures, IsReadable, differs, header_fault, clip_of, clip_length, pictures_of, pixels_of, pixels_of_8, pixels_of_16, channel_of, pixel_count, pixel_size, is_short}
+use Rattle.project_model.specs.Clip.{IsReadable, clip_length, pixel_count, pixel_size}
+use Rattle.frame_file.specs.Clip.{Pictures, differs, header_fault, clip_of, pictures_of, pixels_of, pixels_of_8, pixels_of_16, channel_of, is_short}
 use Rattle.frame_file.specs.Laws.{AreBytes, first_bytes}
 use Rattle.frame_file.proofs.Scan.{none_of_cond}
 use Rattle.frame_file.proofs.Written.{channel_split}

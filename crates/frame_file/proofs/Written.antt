@@ -7,7 +7,8 @@ use Rattle.std.proofs.lemmas.Bool.Decides.{nat_tests}
 use Rattle.argb_pixel.specs.Pixel.{Argb, IsPremultiplied}
 use Rattle.project_model.specs.Bounds.{most_of}
 use Rattle.frame_file.specs.Afr.{pixel_bytes}
-use Rattle.frame_file.specs.Clip.{pixels_of, pixels_of_8, pixels_of_16, channel_of, is_bad, first_bad, pixel_size}
+use Rattle.project_model.specs.Clip.{pixel_size}
+use Rattle.frame_file.specs.Clip.{pixels_of, pixels_of_8, pixels_of_16, channel_of, is_bad, first_bad}
 
 -- two bytes of a channel
 channel_back : (c : ℕ) → c < 65536 → channel_of (get_or (to_be_bytes w16 c) 0 0) (get_or (to_be_bytes w16 c) 1 0) ≡ c

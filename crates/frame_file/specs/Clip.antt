@@ -1,39 +1,14 @@
 -- Reading a clip: what its declaration asks of the bytes of its file, and the pictures that these are.
-use Rattle.std.specs.Prelude.{◌≡◌, ℕ, ◌+◌, ◌-◌, ◌*◌, ◌/◌, ◌%◌, ◌≤◌, ◌==◌, nat_lt, nat_le, ◌⊎◌, ◌&&◌, ◌||◌, Bool, not, pos, ◌≤ℤ◌, unsigned_abs, List, [], ◌∷◌, codes, length, take, drop, get_or, bytes_eq, if◌then◌else◌, Option, Some, None, Result, Ok, Err}
+use Rattle.std.specs.Prelude.{◌≡◌, ℕ, ◌+◌, ◌-◌, ◌*◌, ◌/◌, ◌%◌, ◌≤◌, ◌==◌, nat_lt, nat_le, ◌⊎◌, ◌&&◌, ◌||◌, Bool, not, unsigned_abs, List, [], ◌∷◌, codes, length, take, drop, get_or, bytes_eq, if◌then◌else◌, Option, Some, None, Result, Ok, Err}
 use Rattle.std.specs.Int.{w32, to_be_bytes}
 use Rattle.std.specs.List.{position_from}
 use Rattle.argb_pixel.specs.Pixel.{Argb, clear, depth_of}
 use Rattle.project_model.specs.declared.clip.ClipUse.{ClipUse}
-use Rattle.project_model.specs.Bounds.{most_of, greatest_side, greatest_area, most_frames, is_colour}
+use Rattle.project_model.specs.Bounds.{most_of, header_length, greatest_side, most_frames, is_colour}
+use Rattle.project_model.specs.Clip.{pixel_size, clip_length}
 use Rattle.frame_file.specs.declared.header.Header.{Header}
 use Rattle.frame_file.specs.declared.error.ClipError.{ClipError}
 use Rattle.frame_file.specs.declared.error.ClipError.TheVariants.{BadMagic, BadHeader, Short, Trailing, BadPixel}
-
--- a declaration whose numbers are those that a project may have
-pub record IsReadable (declared : ClipUse) : Type 0 where
-  pub width : (1 ≤ declared.width) × (declared.width ≤ greatest_side)
-  pub height : (1 ≤ declared.height) × (declared.height ≤ greatest_side)
-  pub area : declared.width * declared.height ≤ greatest_area
-  pub depth : (declared.depth ≡ 8) ⊎ (declared.depth ≡ 16)
-  pub frames : (1 ≤ declared.frames) × (declared.frames ≤ most_frames)
-  pub value : pos 1 ≤ℤ declared.frame.value
-  pub scale : 1 ≤ declared.frame.scale
-
--- how many bytes the header has
-abbrev pub header_length : ℕ
-header_length = 29
-
--- how many bytes a pixel has
-abbrev pub pixel_size : ℕ → ℕ
-pixel_size depth = if depth == 8 then 4 else 8
-
--- how many pixels the pictures have together
-abbrev pub pixel_count : ClipUse → ℕ
-pixel_count declared = declared.frames * (declared.width * declared.height)
-
--- how many bytes the file has
-abbrev pub clip_length : ClipUse → ℕ
-clip_length declared = header_length + pixel_count declared * pixel_size declared.depth
 
 -- the header that the declaration asks for, but for the first frame, which may be any
 abbrev pub header_of : ClipUse → ℕ → Header

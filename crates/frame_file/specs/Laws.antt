@@ -5,7 +5,8 @@ use Rattle.argb_pixel.specs.Pixel.{Argb, IsPremultiplied}
 use Rattle.project_model.specs.declared.clip.ClipUse.{ClipUse}
 use Rattle.project_model.specs.Bounds.{most_of}
 use Rattle.frame_file.specs.Afr.{header_bytes, pixel_bytes, picture_bytes}
-use Rattle.frame_file.specs.Clip.{IsReadable, header_of, pixel_count, clip_of, pictures_of}
+use Rattle.project_model.specs.Clip.{IsReadable, pixel_count}
+use Rattle.frame_file.specs.Clip.{header_of, clip_of, pictures_of}
 
 -- the file of a clip with these pixels, whose first frame has this number
 abbrev pub file_of : ClipUse → ℕ → List Argb → List ℕ

@@ -5,7 +5,8 @@ use Rattle.std.specs.List.{AllZip}
 use Rattle.host_io.specs.Clips.{ClipMap, bytes_at}
 use Rattle.host_io.specs.Cause.{Rose}
 use Rattle.project_model.specs.declared.clip.ClipUse.{ClipUse}
-use Rattle.frame_file.specs.Clip.{Pictures, judged, clip_of, clip_length}
+use Rattle.project_model.specs.Clip.{clip_length}
+use Rattle.frame_file.specs.Clip.{Pictures, judged, clip_of}
 use Rattle.frame_file.specs.declared.error.ClipError.{ClipError}
 use Rattle.frame_file.specs.declared.error.LoadError.{LoadError}
 use Rattle.frame_file.specs.declared.error.LoadError.TheVariants.{Fault, Missing, Refused, Memory}

@@ -1,9 +1,10 @@
 //! Clips: pictures that were read from the bytes of a file.
-ghost use Rattle.std.specs.Prelude.{◌≡◌, ◌+◌, ◌*◌, ◌<◌, ◌≤◌, length, drop, get_or, None, Ok, Err, IfOk, IfErr, IsErrOf, MatchResult};
+ghost use Rattle.std.specs.Prelude.{◌≡◌, ℕ, ◌+◌, ◌*◌, ◌<◌, ◌≤◌, length, drop, get_or, slice_index_or, None, Ok, Err, IfOk, IfErr, IsErrOf, MatchResult};
 ghost use Rattle.argb_pixel.specs.Depth.{IsDepth};
-ghost use Rattle.argb_pixel.specs.Pixel.{IsPremultiplied};
-ghost use Rattle.project_model.specs.Bounds.{most_of, greatest_side, most_frames};
-ghost use Rattle.frame_file.specs.Clip.{IsReadable, header_length, clip_length, pictures_of, pixels_of, pixels_of_8, pixels_of_16, first_bad, clip_of, judged, pixel_in, in_depth, head_of_8, head_of_16, IsKept};
+ghost use Rattle.argb_pixel.specs.Pixel.{IsPremultiplied, clear};
+ghost use Rattle.project_model.specs.Bounds.{most_of, greatest_side, most_frames, header_length};
+ghost use Rattle.project_model.specs.Clip.{IsReadable, clip_length};
+ghost use Rattle.frame_file.specs.Clip.{pictures_of, pixels_of, pixels_of_8, pixels_of_16, first_bad, clip_of, judged, pixel_in, in_depth, head_of_8, head_of_16, IsKept};
 
 use crate::ClipError;
 use crate::judge::{HEADER_LENGTH, channel_of, judge};
@@ -25,7 +26,8 @@ pub struct Clip {
 
 impl Model for Clip {
     ghost use Rattle.std.specs.Prelude.{drop};
-    ghost use Rattle.frame_file.specs.Clip.{Pictures, IsKept, pixels_of, header_length};
+    ghost use Rattle.project_model.specs.Bounds.{header_length};
+    ghost use Rattle.frame_file.specs.Clip.{Pictures, IsKept, pixels_of};
 
     ghost Value = { Pictures };
 
@@ -103,6 +105,45 @@ impl Clip {
             in_depth(pixel_of_16(&pixels[place * 8..]))
         }
     }
+
+    /// The width of the pictures, in pixels.
+    pub fn width(&self) -> u32
+        ensures { result ≡ self.now.width }
+    {
+        self.width
+    }
+
+    /// Their height, in pixels.
+    pub fn height(&self) -> u32
+        ensures { result ≡ self.now.height }
+    {
+        self.height
+    }
+
+    /// How many pictures there are.
+    pub fn frames(&self) -> u32
+        ensures { result ≡ self.now.frames }
+    {
+        self.frames
+    }
+
+    /// The pixels of a picture at the height `y` from its top, from the left, in the depth `MAX`, over as many pixels as the
+    /// clip is wide. The clip has the picture, counted from 0, and the height.
+    pub fn read_row<const MAX: u32>(&self, picture: u32, y: u32, into: &mut [Pixel<MAX>])
+        requires depth { IsDepth MAX }
+        requires picture { picture < self.now.frames }
+        requires row { y < self.now.height }
+        requires width { length into.old ≡ self.now.width }
+        ensures { (x : ℕ) → x < self.now.width → slice_index_or into.new x clear ≡ pixel_in MAX self.now picture x y }
+    {
+        let start = row_start(self.width, self.height, picture, y);
+        let pixels = &self.bytes[HEADER_LENGTH..];
+        if self.depth == 8 {
+            read_8(pixels, start, into);
+        } else {
+            read_16(pixels, start, into);
+        }
+    }
 }
 
 // A pixel's place among all pixels.
@@ -115,6 +156,41 @@ fn place_in(width: u32, height: u32, picture: u32, x: u32, y: u32) -> usize
     ensures { result ≡ (picture * height + y) * width + x }
 {
     (picture as usize * height as usize + y as usize) * width as usize + x as usize
+}
+
+// The place of the first pixel of a row among all pixels.
+fn row_start(width: u32, height: u32, picture: u32, y: u32) -> usize
+    requires width { width ≤ greatest_side }
+    requires height { height ≤ greatest_side }
+    requires picture { picture < most_frames }
+    requires row { y < height }
+    ensures { result ≡ (picture * height + y) * width }
+{
+    (picture as usize * height as usize + y as usize) * width as usize
+}
+
+// The pixels from a place on, of one byte a channel.
+fn read_8<const MAX: u32>(pixels: &[u8], start: usize, into: &mut [Pixel<MAX>])
+    requires depth { IsDepth MAX }
+    requires long { (start + length into.old) * 4 ≤ length pixels.now }
+    requires sound { first_bad 255 (pixels_of_8 pixels.now) ≡ None }
+    ensures { (x : ℕ) → x < length into.old → slice_index_or into.new x clear ≡ in_depth 255 MAX (get_or (pixels_of_8 pixels.now) (start + x) clear) }
+{
+    for x in 0..into.len() {
+        into[x] = in_depth(pixel_of_8(&pixels[(start + x) * 4..]));
+    }
+}
+
+// The same of two bytes a channel.
+fn read_16<const MAX: u32>(pixels: &[u8], start: usize, into: &mut [Pixel<MAX>])
+    requires depth { IsDepth MAX }
+    requires long { (start + length into.old) * 8 ≤ length pixels.now }
+    requires sound { first_bad 32768 (pixels_of_16 pixels.now) ≡ None }
+    ensures { (x : ℕ) → x < length into.old → slice_index_or into.new x clear ≡ in_depth 32768 MAX (get_or (pixels_of_16 pixels.now) (start + x) clear) }
+{
+    for x in 0..into.len() {
+        into[x] = in_depth(pixel_of_16(&pixels[(start + x) * 8..]));
+    }
 }
 
 // The pixel in another depth, or as it is in its own.

@@ -1,24 +1,14 @@
 //! What refuses the bytes of a clip's file.
 ghost use Rattle.std.specs.Prelude.{◌≡◌, ◌+◌, ◌*◌, ◌^◌, ◌<◌, ◌≤◌, length, drop, None, Ok, Err, Some, OnOk, IfErr, IfSome};
-ghost use Rattle.project_model.specs.Bounds.{most_of, is_colour};
-ghost use Rattle.frame_file.specs.Clip.{IsReadable, header_length, pixel_size, pixel_count, clip_length, pictures_of, pixels_of, pixels_of_8, pixels_of_16, first_bad, judged, judged_body, judged_pixels, differs, header_fault, bad_pixel, channel_of};
+ghost use Rattle.project_model.specs.Bounds.{most_of, is_colour, header_length};
+ghost use Rattle.project_model.specs.Clip.{IsReadable, pixel_size, pixel_count, clip_length};
+ghost use Rattle.frame_file.specs.Clip.{pictures_of, pixels_of, pixels_of_8, pixels_of_16, first_bad, judged, judged_body, judged_pixels, differs, header_fault, bad_pixel, channel_of};
 
 use crate::ClipError;
-use project_model::ClipUse;
+use project_model::{CLIP_HEADER_LENGTH, ClipUse};
 
 /// How many bytes the header of a file has.
-pub(crate) const HEADER_LENGTH: usize = 29;
-
-/// How many bytes the file of a clip has: its header and its pixels.
-pub(crate) fn clip_length(declared: &ClipUse) -> u64
-    requires { IsReadable declared.now }
-    ensures value { result ≡ clip_length declared.now }
-    ensures small { result < 2 ^ 43 }
-{
-    let area = u64::from(declared.width) * u64::from(declared.height);
-    let size = if declared.depth == 8 { 4 } else { 8 };
-    HEADER_LENGTH as u64 + u64::from(declared.frames) * area * size
-}
+pub(crate) const HEADER_LENGTH: usize = CLIP_HEADER_LENGTH as usize;
 
 /// Whether these bytes of a file, which is said to have `there`, are a clip that is declared so, or what refuses them first.
 pub(crate) fn judge(declared: &ClipUse, bytes: &[u8], there: u64) -> Result<(), ClipError>
@@ -57,7 +47,7 @@ fn judge_body(declared: &ClipUse, bytes: &[u8], there: u64) -> Result<(), ClipEr
     ensures refused { IfErr result (λ why. judged_body there bytes.now declared.now None ≡ Err why) }
 {
     let have = bytes.len() as u64;
-    let want = clip_length(declared);
+    let want = declared.file_length();
     if have < want || (have < there && have <= want) {
         return Err(ClipError::Short { have, want });
     }

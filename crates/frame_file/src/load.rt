@@ -1,13 +1,14 @@
 //! Clips from a store.
 ghost use Rattle.std.specs.Prelude.{◌≡◌, ◌+◌, ◌<◌, ◌≤◌, ℕ, List, length, take, min, IfOk, IfErr, OnOk, OnErr, Option, Some, None, ◌⊎◌};
-ghost use Rattle.std.specs.List.{All};
+ghost use Rattle.std.specs.List.{All, AllZip};
 ghost use Rattle.host_io.specs.Cause.{Rose};
 ghost use Rattle.host_io.specs.Clips.{EndsThere};
-ghost use Rattle.frame_file.specs.Clip.{IsReadable};
+ghost use Rattle.project_model.specs.Clip.{IsReadable};
+ghost use Rattle.frame_file.specs.Clip.{pictures_of};
 ghost use Rattle.frame_file.specs.Load.{Loads, LoadsOne, CountsLoad, IsFront, AddsFrom, with_list};
 
 use crate::clip::Clip;
-use crate::judge::{clip_length, judge};
+use crate::judge::judge;
 use crate::{ClipError, LoadError};
 use host_io::{ClipStore, Failed};
 use project_model::ClipUse;
@@ -24,7 +25,8 @@ const PIECE: usize = 65_536;
 /// - `Refused`: the bytes of its file are refused, as `read_clip` does it. Where the store ends before the length that it
 ///   said, the clip is `Short` by what was handed out.
 ///
-/// The numbers of each declaration are those that a project may have.
+/// Each clip that is loaded has the sides, the depth and as many pictures as its declaration says. The numbers of each
+/// declaration are those that a project may have.
 pub fn load_clips<C: ClipStore>(
     alloc: Global,
     clips: &mut C,
@@ -32,6 +34,7 @@ pub fn load_clips<C: ClipStore>(
 ) -> Result<Vec<Clip>, LoadError>
     requires { All IsReadable uses.now }
     ensures loads { Loads (C.clips clips.old) uses.now (with_list result) }
+    ensures declared { IfOk result (λ clips. AllZip (λ declared clip. clip ≡ pictures_of declared clip.pixels) uses.now clips.items) }
     ensures cause { CountsLoad result (C.faults clips.old) (C.faults clips.new) }
     ensures kept { C.clips clips.new ≡ C.clips clips.old }
 {
@@ -62,7 +65,7 @@ fn load_clip<C: ClipStore>(
         Ok(None) => return Err(LoadError::Missing { index }),
         Err(Failed) => return Err(LoadError::Fault { index }),
     };
-    let most = there.min(clip_length(declared) + 1) as usize;
+    let most = there.min(declared.file_length() + 1) as usize;
     let bytes = read_front(alloc, clips, declared.name.as_str(), most, index)?;
     match judge(declared, &bytes, there) {
         Ok(()) => Ok(Clip::of_judged(declared, bytes)),
