@@ -1,3 +1,4 @@
 pub mod Output
+pub mod Scene
 pub mod Shown
 pub mod Worked

@@ -1,39 +1,107 @@
 -- What a composition shows at a tick.
-use Rattle.std.specs.Prelude.{◌≡◌, ℕ, zero, suc, ◌+◌, ◌≤◌, ℤ, pos, ◌*ℤ◌, max, List, [], ◌∷◌, fold, slice_get, unsigned_abs, unwrap_or, int_le, int_lt, Bool, false, not, ◌&&◌, if◌then◌else◌, Option, Some, None}
+use Rattle.std.specs.Prelude.{◌≡◌, ℕ, zero, suc, ◌+◌, ℤ, pos, ◌*ℤ◌, ◌-ℤ◌, List, [], ◌∷◌, length, slice_get, unsigned_abs, unwrap_or, int_le, int_lt, Bool, false, not, ◌&&◌, if◌then◌else◌, Option, Some, None}
 use Rattle.std.specs.Option.{option_map_or}
 use Rattle.geom_rect.specs.Rect.{has, frame_rect}
 use Rattle.argb_pixel.specs.Pixel.{Argb, clear}
 use Rattle.rational_time.specs.declared.time.Time.{Time}
-use Rattle.rational_time.specs.Times.{tick_of, common_base}
+use Rattle.rational_time.specs.Times.{tick_of, frame_at, held_of, common_base}
 use Rattle.param_stream.specs.Curve.{value_at}
 use Rattle.transfer_mode.specs.declared.mode.Mode.TheVariants.{Normal}
 use Rattle.track_matte.specs.declared.matte.Matte.TheVariants as matte
 use Rattle.comp_stack.specs.Stack.{Plane, solid_plane, PlacedPlane, PlacedLayer, stack_at}
 use Rattle.project_model.specs.Bounds.{most_of}
+use Rattle.project_model.specs.Nesting.{IsAcyclic}
 use Rattle.project_model.specs.Rules.{has_matte, layer_above}
 use Rattle.project_model.specs.Times.{times_of}
+use Rattle.project_model.specs.declared.clip.ClipUse.{ClipUse}
 use Rattle.project_model.specs.declared.item.Item.{Item}
-use Rattle.project_model.specs.declared.item.Item.TheVariants.{Solid}
+use Rattle.project_model.specs.declared.item.Item.TheVariants.{Solid, Clip, Comp}
+use Rattle.project_model.specs.declared.node.NodeId.{NodeId}
+use Rattle.project_model.specs.declared.node.NodeId.TheVariants.{Source, Stack}
 use Rattle.project_model.specs.declared.plain.PlainLayer.{PlainLayer}
 use Rattle.project_model.specs.declared.plain.PlainComp.{PlainComp}
 use Rattle.project_model.specs.declared.plain.PlainProject.{PlainProject}
+use Rattle.frame_file.specs.Clip.{Pictures, pixel_in}
+
+-- a project with the pictures of its clips, in the order in which it declares them
+pub record PlainScene : Type 0 where
+  pub project : PlainProject
+  pub clips : List Pictures
 
 -- the ticks of a second: the least common multiple of all scales that the project writes
 abbrev pub base_in : PlainProject → ℕ
 base_in project = common_base (times_of project)
 
+-- the greatest value of a channel
+abbrev pub most_in : PlainScene → ℕ
+most_in scene = most_of scene.project.depth
+
 -- what the composition of an index shows at a tick and a point
 abbrev pub Showing : Type 0
 Showing = ℕ → ℤ → ℤ → ℤ → Argb
 
--- The plane of a source at a tick, where a layer of it starts at this time. A solid is the same at each tick and needs
--- neither; a nested composition will be what `nested` shows at the ticks since the start.
-abbrev pub plane_of_item : Showing → ℕ → Time → Item → ℤ → Plane
-plane_of_item nested base start (Solid width height a r g b) t = solid_plane width height record { a = a; r = r; g = g; b = b }
+-- nowhere
+abbrev pub nothing : Plane
+nothing = record { extent = frame_rect 0 0; at = λ x y. clear }
+
+-- ---- clips
+
+-- a pixel of a picture of a clip, transparent where there is no such picture or point
+abbrev pub picture_at : ℕ → Pictures → ℤ → ℤ → ℤ → Argb
+picture_at most clip picture x y =
+    if int_le (pos 0) picture && int_lt picture (pos clip.frames) && has (frame_rect clip.width clip.height) x y
+    then pixel_in most clip (unsigned_abs picture) (unsigned_abs x) (unsigned_abs y)
+    else clear
+
+abbrev pub picture_plane : ℕ → ℕ → Option ClipUse → Option Pictures → ℤ → Plane
+picture_plane most base (Some declared) (Some clip) t = record {
+  extent = frame_rect clip.width clip.height;
+  at = picture_at most clip (frame_at t (tick_of base declared.frame));
+}
+picture_plane most base _ _ t = nothing
+
+-- what the clip of an index shows at a tick of its own: the picture in which the tick lies, in the project's depth
+abbrev pub clip_plane : PlainScene → ℕ → ℤ → Plane
+clip_plane scene index t =
+    picture_plane (most_in scene) (base_in scene.project) (slice_get scene.project.clips index) (slice_get scene.clips index) t
+
+-- ---- what layers take from
+
+-- what layers are drawn from: clips and compositions by their indices, at ticks of their own
+pub record Sources : Type 0 where
+  -- the ticks of a second
+  pub base : ℕ
+  pub clip : ℕ → ℤ → Plane
+  pub comp : ℕ → ℤ → Plane
+
+-- over the frame of a composition, what it shows
+abbrev pub comp_plane : Showing → ℕ → Option PlainComp → ℤ → Plane
+comp_plane showing index None t = nothing
+comp_plane showing index (Some comp) t = record { extent = frame_rect comp.width comp.height; at = showing index t }
+
+-- the clips of a scene, and its compositions where they show this
+abbrev pub sources_of : PlainScene → Showing → Sources
+sources_of scene showing = record {
+  base = base_in scene.project;
+  clip = clip_plane scene;
+  comp = λ index t. comp_plane showing index (slice_get scene.project.comps index) t;
+}
+
+-- the tick since a layer that starts at this time began, within 36,000 seconds of zero
+abbrev pub since : ℕ → Time → ℤ → ℤ
+since base start t = held_of base (t -ℤ tick_of base start)
+
+-- The plane of what a layer shows at a tick, where the layer starts at this time. A solid is the same at each tick.
+abbrev pub plane_of_item : Sources → Time → Item → ℤ → Plane
+plane_of_item sources start (Solid width height a r g b) t = solid_plane width height record { a = a; r = r; g = g; b = b }
+plane_of_item sources start (Clip index) t = sources.clip index (since sources.base start t)
+plane_of_item sources start (Comp index) t = sources.comp index (since sources.base start t)
 
 -- the plane of a layer's source at a tick
-abbrev pub source_plane : Showing → ℕ → PlainLayer → ℤ → Plane
-source_plane nested base layer t = plane_of_item nested base layer.start layer.source t
+abbrev pub source_plane : Sources → PlainLayer → ℤ → Plane
+source_plane sources layer t = plane_of_item sources layer.start layer.source t
+
+-- ---- layers
 
 -- the tick at which a composition ends
 abbrev pub end_of_comp : ℕ → PlainComp → ℤ
@@ -49,32 +117,32 @@ abbrev pub is_seen : ℕ → PlainComp → ℤ → PlainLayer → Bool
 is_seen base comp t layer = int_le (tick_of base layer.in_point) t && int_lt t (end_of_layer base comp layer.out_point)
 
 -- a layer's plane where its streams put it at a tick
-abbrev pub plane_in : Showing → ℕ → ℤ → PlainLayer → PlacedPlane
-plane_in nested base t layer = record {
-  plane = source_plane nested base layer t;
-  x = value_at base layer.x t;
-  y = value_at base layer.y t;
-  opacity = unsigned_abs (value_at base layer.opacity t);
+abbrev pub plane_in : Sources → ℤ → PlainLayer → PlacedPlane
+plane_in sources t layer = record {
+  plane = source_plane sources layer t;
+  x = value_at sources.base layer.x t;
+  y = value_at sources.base layer.y t;
+  opacity = unsigned_abs (value_at sources.base layer.opacity t);
 }
 
 -- the plane of a layer that is seen
-abbrev pub seen_plane : Showing → ℕ → PlainComp → ℤ → Option PlainLayer → Option PlacedPlane
-seen_plane nested base comp t None = None
-seen_plane nested base comp t (Some layer) = if is_seen base comp t layer then Some (plane_in nested base t layer) else None
+abbrev pub seen_plane : Sources → PlainComp → ℤ → Option PlainLayer → Option PlacedPlane
+seen_plane sources comp t None = None
+seen_plane sources comp t (Some layer) = if is_seen sources.base comp t layer then Some (plane_in sources t layer) else None
 
 -- what the matte of the layer of this index is taken from: the layer above, where it is seen
-abbrev pub matte_plane : Showing → ℕ → PlainComp → ℤ → ℕ → PlainLayer → Option PlacedPlane
-matte_plane nested base comp t index layer =
-    if has_matte layer then seen_plane nested base comp t (layer_above comp index) else None
+abbrev pub matte_plane : Sources → PlainComp → ℤ → ℕ → PlainLayer → Option PlacedPlane
+matte_plane sources comp t index layer =
+    if has_matte layer then seen_plane sources comp t (layer_above comp index) else None
 
 -- The layer of this index as the stack sees it at a tick. Where what is written names no mode or no matte, which no rule
 -- accepts, it is Normal, and has none.
-abbrev pub placed_of : Showing → ℕ → PlainComp → ℤ → ℕ → PlainLayer → PlacedLayer
-placed_of nested base comp t index layer = record {
-  layer = plane_in nested base t layer;
+abbrev pub placed_of : Sources → PlainComp → ℤ → ℕ → PlainLayer → PlacedLayer
+placed_of sources comp t index layer = record {
+  layer = plane_in sources t layer;
   mode = unwrap_or layer.mode Normal;
   matte = unwrap_or layer.matte matte.None;
-  over = matte_plane nested base comp t index layer;
+  over = matte_plane sources comp t index layer;
 }
 
 -- the layer of this index is the matte of the one below it
@@ -82,54 +150,60 @@ abbrev pub serves_as_matte : PlainComp → ℕ → Bool
 serves_as_matte comp index = option_map_or has_matte (slice_get comp.layers (index + 1)) false
 
 -- the layers from this index on that are shown at a tick: those that are seen, but for mattes
-abbrev pub placed_layers : Showing → ℕ → PlainComp → ℤ → ℕ → List PlainLayer → List PlacedLayer
-placed_layers nested base comp t index [] = []
-placed_layers nested base comp t index (layer ∷ lower) =
-    if is_seen base comp t layer && not (serves_as_matte comp index)
-    then placed_of nested base comp t index layer ∷ placed_layers nested base comp t (index + 1) lower
-    else placed_layers nested base comp t (index + 1) lower
+abbrev pub placed_layers : Sources → PlainComp → ℤ → ℕ → List PlainLayer → List PlacedLayer
+placed_layers sources comp t index [] = []
+placed_layers sources comp t index (layer ∷ lower) =
+    if is_seen sources.base comp t layer && not (serves_as_matte comp index)
+    then placed_of sources comp t index layer ∷ placed_layers sources comp t (index + 1) lower
+    else placed_layers sources comp t (index + 1) lower
+
+-- ---- compositions
 
 -- A composition at a tick: the stack of the layers that are shown, within the frame and the composition's time, and
--- transparent elsewhere.
-abbrev pub comp_shown : Showing → PlainProject → Option PlainComp → ℤ → ℤ → ℤ → Argb
-comp_shown nested project None t x y = clear
-comp_shown nested project (Some comp) t x y =
-    if int_le (pos 0) t && int_lt t (end_of_comp (base_in project) comp) && has (frame_rect comp.width comp.height) x y
-    then stack_at (most_of project.depth) (placed_layers nested (base_in project) comp t 0 comp.layers) x y
+-- transparent elsewhere. `most` is the greatest value of a channel.
+abbrev pub comp_shown : ℕ → Sources → Option PlainComp → ℤ → ℤ → ℤ → Argb
+comp_shown most sources None t x y = clear
+comp_shown most sources (Some comp) t x y =
+    if int_le (pos 0) t && int_lt t (end_of_comp sources.base comp) && has (frame_rect comp.width comp.height) x y
+    then stack_at most (placed_layers sources comp t 0 comp.layers) x y
     else clear
+
+-- what the compositions of a scene show, where those that they nest show this
+abbrev pub shown_from : PlainScene → Showing → Showing
+shown_from scene showing index t x y =
+    comp_shown (most_in scene) (sources_of scene showing) (slice_get scene.project.comps index) t x y
 
 -- What the composition of an index shows, in so many turns: each nested composition takes one. Where they are as many as
 -- it takes, more of them change nothing.
-abbrev pub shown_in : ℕ → PlainProject → Showing
-shown_in zero project index t x y = clear
-shown_in (suc turns) project index t x y = comp_shown (shown_in turns project) project (slice_get project.comps index) t x y
+abbrev pub shown_in : ℕ → PlainScene → Showing
+shown_in zero scene index t x y = clear
+shown_in (suc turns) scene index t x y = shown_from scene (shown_in turns scene) index t x y
 
--- how many turns a source and a composition take
-abbrev pub turns_of_source : Item → ℕ
-turns_of_source (Solid width height a r g b) = 0
+-- no composition takes more turns than there are compositions
+abbrev pub shown : PlainScene → Showing
+shown scene = shown_in (length scene.project.comps) scene
 
-abbrev pub turns_of_comp : PlainComp → ℕ
-turns_of_comp comp = 1 + fold (λ greatest layer. max greatest (turns_of_source layer.source)) 0 comp.layers
+-- ---- nodes
 
--- no project takes more
-abbrev pub enough_turns : ℕ
-enough_turns = 257
+-- the plane of a node at a tick: of a layer's source, or of what a composition shows
+abbrev pub plane : PlainScene → NodeId → ℤ → Plane
+plane scene (Source comp layer) t =
+    option_map_or (λ here. source_plane (sources_of scene (shown scene)) here t)
+    (slice_get (option_map_or (λ here. here.layers) (slice_get scene.project.comps comp) []) layer) nothing
+plane scene (Stack comp) t = comp_plane (shown scene) comp (slice_get scene.project.comps comp) t
 
-abbrev pub shown : PlainProject → Showing
-shown project = shown_in enough_turns project
+-- ---- laws
 
--- the meaning is a fixed point: a composition shows its layers, whose nested compositions show what they show
+-- The meaning is a fixed point: a composition shows its layers, whose nested compositions show what they show.
 abbrev pub ShownIsOfWhatIsShown : Type 0
 ShownIsOfWhatIsShown =
-    (project : PlainProject) (index : ℕ) (comp : PlainComp) (t x y : ℤ)
-    → slice_get project.comps index ≡ Some comp
-    → turns_of_comp comp ≤ enough_turns
-    → shown project index t x y ≡ comp_shown (shown project) project (Some comp) t x y
+    (scene : PlainScene) (index : ℕ) (t x y : ℤ)
+    → IsAcyclic scene.project
+    → shown scene index t x y ≡ shown_from scene (shown scene) index t x y
 
--- turns beyond those that it takes change nothing
+-- turns beyond as many as there are compositions change nothing
 abbrev pub MoreTurnsChangeNothing : Type 0
 MoreTurnsChangeNothing =
-    (project : PlainProject) (index turns more : ℕ) (comp : PlainComp) (t x y : ℤ)
-    → slice_get project.comps index ≡ Some comp
-    → turns_of_comp comp ≤ turns
-    → shown_in (turns + more) project index t x y ≡ shown_in turns project index t x y
+    (scene : PlainScene) (index more : ℕ) (t x y : ℤ)
+    → IsAcyclic scene.project
+    → shown_in (length scene.project.comps + more) scene index t x y ≡ shown scene index t x y

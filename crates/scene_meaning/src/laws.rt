@@ -1,6 +1,6 @@
 //! Laws over the definitions, each the contract of a function that does nothing.
 ghost use Rattle.scene_meaning.specs.Shown.{ShownIsOfWhatIsShown, MoreTurnsChangeNothing};
-ghost use Rattle.scene_meaning.specs.Worked.{TwoPixelsAreDrawn, EndedIsNotDrawn, MovingIsDrawn, HalfIsDrawn, SixteenBitsAreDrawn, MatteIsDrawn, ModeIsDrawn};
+ghost use Rattle.scene_meaning.specs.Worked.{TwoPixelsAreDrawn, EndedIsNotDrawn, MovingIsDrawn, HalfIsDrawn, SixteenBitsAreDrawn, MatteIsDrawn, ModeIsDrawn, NestedIsDrawn, ClipIsDrawn, ClipIsWidened, ClipIsNarrowed};
 
 /// A composition shows its layers, whose nested compositions show what they show.
 pub fn shown_is_of_what_is_shown()
@@ -52,4 +52,28 @@ pub fn matte_is_drawn()
 #[tactic(auto, unfolding(frame_file::specs::Afr::header_bytes))]
 pub fn mode_is_drawn()
     ensures { ModeIsDrawn }
+{}
+
+/// A composition that is nested from the third frame on.
+#[tactic(auto, unfolding(frame_file::specs::Afr::header_bytes))]
+pub fn nested_is_drawn()
+    ensures { NestedIsDrawn }
+{}
+
+/// A clip of two pictures, from the second frame on: nothing is shown before the first picture, and after the last.
+#[tactic(auto, unfolding(frame_file::specs::Afr::header_bytes))]
+pub fn clip_is_drawn()
+    ensures { ClipIsDrawn }
+{}
+
+/// A clip of 8 bits a channel in a project of 16.
+#[tactic(auto, unfolding(frame_file::specs::Afr::header_bytes))]
+pub fn clip_is_widened()
+    ensures { ClipIsWidened }
+{}
+
+/// A clip of 16 bits a channel in a project of 8.
+#[tactic(auto, unfolding(frame_file::specs::Afr::header_bytes))]
+pub fn clip_is_narrowed()
+    ensures { ClipIsNarrowed }
 {}

@@ -2,8 +2,11 @@
 #![tactic(auto)]
 
 mod laws;
+mod scene;
 
 pub use laws::{
-    ended_is_not_drawn, half_is_drawn, matte_is_drawn, mode_is_drawn, more_turns_change_nothing,
-    moving_is_drawn, shown_is_of_what_is_shown, sixteen_bits_are_drawn, two_pixels_are_drawn,
+    clip_is_drawn, clip_is_narrowed, clip_is_widened, ended_is_not_drawn, half_is_drawn,
+    matte_is_drawn, mode_is_drawn, more_turns_change_nothing, moving_is_drawn, nested_is_drawn,
+    shown_is_of_what_is_shown, sixteen_bits_are_drawn, two_pixels_are_drawn,
 };
+pub use scene::Scene;
