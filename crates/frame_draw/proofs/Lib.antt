@@ -1,2 +1,4 @@
+pub mod Drawing
 pub mod Frames
 pub mod Placing
+pub mod Rooted

@@ -1,22 +1,26 @@
-ghost use Rattle.std.specs.Prelude.{◌≡◌, ◌≤◌, ◌<◌, ◌<ℤ◌, length, All, IfOk};
+//! Layers at a tick.
+ghost use Rattle.std.specs.Prelude.{◌≡◌, ◌≤◌, ◌<◌, ◌<ℤ◌, IsTrue, ◌&&◌, int_le, int_lt, pos, ◌*ℤ◌, length, All, IfOk, Some, slice_get};
 ghost use Rattle.geom_rect.specs.Rect as rect;
 ghost use Rattle.argb_pixel.specs.Depth.{IsDepth};
-ghost use Rattle.project_model.specs.Bounds.{most_of};
-ghost use Rattle.project_model.specs.Plain.{plain_layer, plain_comp};
-ghost use Rattle.project_model.specs.Sound.{IsPictureSize, IsSoundItem, IsSoundLayer};
+ghost use Rattle.project_model.specs.Bounds.{greatest_base};
+ghost use Rattle.project_model.specs.Nesting.{IsAcyclic, source_rank, stack_rank};
+ghost use Rattle.project_model.specs.declared.comp.Comp.{Comp};
+ghost use Rattle.project_model.specs.Plain.{plain_layer, plain_comp, plain_of};
+ghost use Rattle.project_model.specs.Sound.{IsPictureSize, IsWritten, MayBeWritten, IsMadeLayer, IsSoundComp};
 ghost use Rattle.comp_stack.specs.Stack.{solid_plane};
-ghost use Rattle.comp_stack.specs.Layers.{plane_of};
+ghost use Rattle.comp_stack.specs.Layers.{IsShown, plane_of, placed_of};
 ghost use Rattle.scene_meaning.specs.Shown as meaning;
 ghost use Rattle.project_model.specs.Rules as rules;
-ghost use Rattle.frame_draw.specs.Layers.{IsOfItem, IsOfPlane, IsOfMatte, IsOfLayer, AreOfLayers};
+ghost use Rattle.frame_draw.specs.Layers.{IsCompOf, IsLayerOf, plane_at};
 
 use argb_pixel::Pixel;
 use argb_world::World;
-use comp_stack::{Placed, Shown};
+use comp_stack::Shown;
 use geom_rect::Rect;
 use host_io::Memory;
-use project_model::{Comp, Item, Layer, Project};
-use rational_time::{Tick, to_tick};
+use project_model::{Comp, Layer};
+use rational_time::{Tick, TimeBase, held, to_tick};
+use scene_meaning::Scene;
 use std::alloc::Global;
 use track_matte::Matte;
 
@@ -34,52 +38,85 @@ pub(crate) fn frame_rect(width: u32, height: u32) -> Rect
     }
 }
 
-/// The layers of a composition that are shown at a tick before its end, from the topmost down: those that are seen, but for
-/// mattes.
-pub(crate) fn place_layers<const MAX: u32>(
-    alloc: Global,
-    project: &Project,
-    comp: &Comp,
-    tick: Tick,
-) -> Result<Vec<Placed<MAX>>, Memory>
-    requires depth { MAX ≡ most_of project.now.depth }
-    requires layers { All (IsSoundLayer project.now.depth project.now.base.ticks) comp.now.layers }
-    requires within { tick.0 <ℤ meaning.end_of_comp project.now.base.ticks (plain_comp comp.now) }
-    ensures { IfOk result (λ placed. AreOfLayers project.now.base.ticks tick.0 (plain_comp comp.now) placed.items) }
+/// The ticks of a second in a scene.
+pub(crate) fn base_of(scene: &Scene) -> TimeBase
+    ensures ticks { result.ticks ≡ meaning.base_in (plain_of scene.now.project) }
+    ensures some { 1 ≤ result.ticks }
+    ensures bound { result.ticks ≤ greatest_base }
+    ensures nesting { IsAcyclic (plain_of scene.now.project) }
 {
-    let mut placed = Vec::new(alloc);
-    for (index, layer) in comp.layers.as_slice().iter().enumerate() {
-        if is_seen(project, comp, layer, tick) && !serves_as_matte(comp, index) {
-            placed.push(place_layer(alloc, project, comp, index, layer, tick)?)?;
-        }
-    }
-    Ok(placed)
+    scene.project().base
+}
+
+/// The composition of an index.
+pub(crate) fn comp_at(scene: &Scene, index: u32) -> &Comp
+    requires { index < length scene.now.project.comps }
+    ensures here { slice_get scene.now.project.comps index ≡ Some result.now }
+    ensures sound { IsCompOf scene.now.project result.now }
+    ensures nesting { IsAcyclic (plain_of scene.now.project) }
+{
+    &scene.project().comps.as_slice()[index as usize]
+}
+
+/// The layer of an index in a composition, whose source has a rank below that of the composition.
+pub(crate) fn layer_at(scene: &Scene, of: u32, index: usize) -> &Layer
+    requires comp { of < length scene.now.project.comps }
+    requires layer { (comp : Comp) → slice_get scene.now.project.comps of ≡ Some comp → index < length comp.layers }
+    ensures here { (comp : Comp) → slice_get scene.now.project.comps of ≡ Some comp → slice_get comp.layers index ≡ Some result.now }
+    ensures sound { IsLayerOf scene.now.project result.now }
+    ensures below { source_rank (stack_rank (plain_of scene.now.project)) result.now.source < stack_rank (plain_of scene.now.project) of }
+{
+    let comp = comp_at(scene, of);
+    &comp.layers.as_slice()[index]
+}
+
+/// Whether a tick is within a composition's time.
+pub(crate) fn is_in_time(base: TimeBase, comp: &Comp, tick: Tick) -> bool
+    requires { IsWritten base.ticks comp.now.frame }
+    ensures { result ≡ (int_le (pos 0) tick.0 && int_lt tick.0 (meaning.end_of_comp base.ticks (plain_comp comp.now))) }
+{
+    0 <= tick.0 && is_below(tick.0, comp.frames, to_tick(base, comp.frame).0)
+}
+
+// Whether a tick is before so many frames of this length end.
+fn is_below(tick: i64, frames: u32, ticks: i64) -> bool
+    ensures { result ≡ int_lt tick (pos frames *ℤ ticks) }
+{
+    i128::from(tick) < product(frames, ticks)
+}
+
+// The product of the two.
+fn product(frames: u32, ticks: i64) -> i128
+    ensures { result ≡ (pos frames *ℤ ticks) }
+{
+    i128::from(frames) * i128::from(ticks)
 }
 
 /// Whether a layer is seen at a tick before the end of its composition.
-fn is_seen(project: &Project, comp: &Comp, layer: &Layer, tick: Tick) -> bool
-    requires layer { IsSoundLayer project.now.depth project.now.base.ticks layer.now }
-    requires within { tick.0 <ℤ meaning.end_of_comp project.now.base.ticks (plain_comp comp.now) }
-    ensures { result ≡ meaning.is_seen project.now.base.ticks (plain_comp comp.now) tick.0 (plain_layer layer.now) }
+pub(crate) fn is_seen(base: TimeBase, comp: &Comp, layer: &Layer, tick: Tick) -> bool
+    requires begin { IsWritten base.ticks layer.now.in_point }
+    requires end { MayBeWritten base.ticks layer.now.out_point }
+    requires within { tick.0 <ℤ meaning.end_of_comp base.ticks (plain_comp comp.now) }
+    ensures { result ≡ meaning.is_seen base.ticks (plain_comp comp.now) tick.0 (plain_layer layer.now) }
 {
-    if tick.0 < to_tick(project.base, layer.in_point).0 {
+    if tick.0 < to_tick(base, layer.in_point).0 {
         return false;
     }
     match layer.out_point {
-        Some(out) => tick.0 < to_tick(project.base, out).0,
+        Some(out) => tick.0 < to_tick(base, out).0,
         None => true,
     }
 }
 
 /// Whether a layer has a matte.
-fn has_matte(layer: &Layer) -> bool
+pub(crate) fn has_matte(layer: &Layer) -> bool
     ensures { result ≡ rules.has_matte (plain_layer layer.now) }
 {
     layer.matte != Matte::None
 }
 
 /// Whether the layer of this index is the matte of the one below it.
-fn serves_as_matte(comp: &Comp, index: usize) -> bool
+pub(crate) fn serves_as_matte(comp: &Comp, index: usize) -> bool
     requires { index < length comp.now.layers }
     ensures { result ≡ meaning.serves_as_matte (plain_comp comp.now) index }
 {
@@ -89,100 +126,41 @@ fn serves_as_matte(comp: &Comp, index: usize) -> bool
     }
 }
 
-/// The layer of this index at a tick, with what its matte is taken from.
-fn place_layer<const MAX: u32>(
-    alloc: Global,
-    project: &Project,
-    comp: &Comp,
-    index: usize,
-    layer: &Layer,
-    tick: Tick,
-) -> Result<Placed<MAX>, Memory>
-    requires depth { MAX ≡ most_of project.now.depth }
-    requires layer { IsSoundLayer project.now.depth project.now.base.ticks layer.now }
-    requires layers { All (IsSoundLayer project.now.depth project.now.base.ticks) comp.now.layers }
-    requires within { tick.0 <ℤ meaning.end_of_comp project.now.base.ticks (plain_comp comp.now) }
-    ensures { IfOk result (IsOfLayer project.now.base.ticks tick.0 (plain_comp comp.now) index (plain_layer layer.now)) }
+/// The tick since a layer's own time began.
+pub(crate) fn since_start(base: TimeBase, layer: &Layer, tick: Tick) -> Tick
+    requires { IsWritten base.ticks layer.now.start }
+    ensures { result.0 ≡ meaning.since base.ticks layer.now.start tick.0 }
 {
-    let over = show_matte(alloc, project, comp, index, layer, tick)?;
-    Ok(Placed {
-        layer: show_layer(alloc, project, layer, tick)?,
-        mode: layer.mode,
-        matte: layer.matte,
-        over,
-    })
-}
-
-/// What the matte of the layer of this index is taken from: the layer above, where it is seen at a tick before the end of the
-/// composition.
-fn show_matte<const MAX: u32>(
-    alloc: Global,
-    project: &Project,
-    comp: &Comp,
-    index: usize,
-    layer: &Layer,
-    tick: Tick,
-) -> Result<Option<Shown<MAX>>, Memory>
-    requires depth { MAX ≡ most_of project.now.depth }
-    requires layers { All (IsSoundLayer project.now.depth project.now.base.ticks) comp.now.layers }
-    requires within { tick.0 <ℤ meaning.end_of_comp project.now.base.ticks (plain_comp comp.now) }
-    ensures { IfOk result (IsOfMatte project.now.base.ticks tick.0 (plain_comp comp.now) index (plain_layer layer.now)) }
-{
-    if !has_matte(layer) || index == 0 {
-        return Ok(None);
-    }
-    let Some(above) = comp.layers.as_slice().get(index - 1) else {
-        return Ok(None);
-    };
-    if !is_seen(project, comp, above, tick) {
-        return Ok(None);
-    }
-    Ok(Some(show_layer(alloc, project, above, tick)?))
+    held(
+        base,
+        i128::from(tick.0) - i128::from(to_tick(base, layer.start).0),
+    )
 }
 
 /// A layer's picture where its streams put it at a tick.
-fn show_layer<const MAX: u32>(
-    alloc: Global,
-    project: &Project,
+pub(crate) fn shown_at<const MAX: u32>(
+    base: TimeBase,
     layer: &Layer,
+    world: World<MAX>,
     tick: Tick,
-) -> Result<Shown<MAX>, Memory>
-    requires depth { MAX ≡ most_of project.now.depth }
-    requires layer { IsSoundLayer project.now.depth project.now.base.ticks layer.now }
-    ensures { IfOk result (IsOfPlane project.now.base.ticks tick.0 (plain_layer layer.now)) }
+) -> Shown<MAX>
+    requires streams { IsMadeLayer base.ticks layer.now }
+    ensures fits { IsShown result }
+    ensures plane { placed_of result ≡ plane_at base.ticks tick.0 (plain_layer layer.now) (plane_of world.entry) }
 {
-    let world = item_world(alloc, &layer.source)?;
     let x = layer.x.at(tick);
     let y = layer.y.at(tick);
     let opacity = layer.opacity.at(tick);
-    Ok(Shown {
+    Shown {
         world,
         x: x as i32,
         y: y as i32,
         opacity: opacity as u32,
-    })
-}
-
-/// What an item shows.
-fn item_world<const MAX: u32>(alloc: Global, item: &Item) -> Result<World<MAX>, Memory>
-    requires depth { IsDepth MAX }
-    requires item { IsSoundItem MAX item.now }
-    ensures { IfOk result (IsOfItem item.now) }
-{
-    match item {
-        Item::Solid {
-            width,
-            height,
-            a,
-            r,
-            g,
-            b,
-        } => solid_world(alloc, *width, *height, Pixel::of_channels(*a, *r, *g, *b)),
     }
 }
 
 /// One colour over the rectangle of this width and height at the origin.
-fn solid_world<const MAX: u32>(
+pub(crate) fn solid_world<const MAX: u32>(
     alloc: Global,
     width: u32,
     height: u32,

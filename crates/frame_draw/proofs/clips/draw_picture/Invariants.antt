@@ -1,0 +1,12 @@
+use Rattle.std.proofs.Common.{◌≡◌, length}
+use Rattle.argb_world.specs.Picture.{SameExtentAndPart}
+use Rattle.frame_draw.specs.Kept.{HasRows}
+use Rattle.frame_draw.proofs.clips.draw_picture.Given as goal
+
+-- the rows so far
+abbrev pub invariant-loop-y : goal.invariant-loop-y
+invariant-loop-y g l = record {
+  room : length l.row ≡ l.clip.width;
+  frame : SameExtentAndPart l.fn.world l.world;
+  rows : HasRows g.row.MAX l.clip l.picture l.y l.world;
+}

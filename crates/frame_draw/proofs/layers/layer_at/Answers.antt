@@ -1,0 +1,33 @@
+use Rattle.std.proofs.Common.{◌≡◌, ◌<◌, length, Some, subst, ap, arith}
+use Rattle.std.specs.Prelude.{slice_get}
+use Rattle.project_model.specs.declared.comp.Comp.{Comp}
+use Rattle.frame_draw.specs.Layers.{IsLayerOf}
+use Rattle.frame_draw.proofs.Frames.{read_at, layer_below}
+use Rattle.frame_draw.proofs.Placing.{holds_at}
+use Rattle.frame_draw.proofs.layers.layer_at.Goals as goal
+
+pub returns-clause-here : goal.returns-clause-here
+returns-clause-here c =
+    let mine = c.comp_at-comp.result.now in
+    let there = c.requires.layer mine c.comp_at-comp.ensures.here in
+    let here : c.args.index < length c.as_slice.result.now = omega (arith, there, ap length c.as_slice.ensures) in
+    let found = read_at mine.layers c.as_slice.result.now c.args.index c.index-as_slice-index.result c.as_slice.ensures here c.index-as_slice-index.is in
+    λ comp e.
+    let one = c.comp_at-comp.ensures.here in
+    let same : mine ≡ comp = cc in
+    subst (λ (k : Comp). slice_get k.layers c.args.index ≡ Some c.index-as_slice-index.result) same found
+
+pub returns-clause-sound : goal.returns-clause-sound
+returns-clause-sound c =
+    let mine = c.comp_at-comp.result.now in
+    let there = c.requires.layer mine c.comp_at-comp.ensures.here in
+    let here : c.args.index < length c.as_slice.result.now = omega (arith, there, ap length c.as_slice.ensures) in
+    holds_at (IsLayerOf c.args.scene.now.project) mine.layers c.as_slice.result.now c.args.index c.index-as_slice-index.result c.comp_at-comp.ensures.sound.layers c.as_slice.ensures here c.index-as_slice-index.is
+
+pub returns-clause-below : goal.returns-clause-below
+returns-clause-below c =
+    let mine = c.comp_at-comp.result.now in
+    let there = c.requires.layer mine c.comp_at-comp.ensures.here in
+    let here : c.args.index < length c.as_slice.result.now = omega (arith, there, ap length c.as_slice.ensures) in
+    layer_below c.args.scene.now.project c.args.of mine c.args.index c.index-as_slice-index.result c.comp_at-comp.ensures.nesting c.comp_at-comp.ensures.here
+    (read_at mine.layers c.as_slice.result.now c.args.index c.index-as_slice-index.result c.as_slice.ensures here c.index-as_slice-index.is)

@@ -1,0 +1,30 @@
+-- Planes that are kept, and pictures of clips that are drawn.
+use Rattle.std.specs.Prelude.{◌≡◌, ◌<◌, ℤ, pos, int_le, int_lt, unsigned_abs, ◌&&◌, if◌then◌else◌, ℕ, List, slice_get, Option, Some, None}
+use Rattle.std.specs.List.{AllByRecursion}
+use Rattle.argb_world.specs.Picture.{Picture, at}
+use Rattle.comp_stack.specs.Layers.{plane_of}
+use Rattle.frame_file.specs.Clip.{Pictures, pixel_in}
+use Rattle.project_model.specs.declared.node.NodeId.TheVariants.{Stack}
+use Rattle.scene_meaning.specs.Shown.{PlainScene, plane}
+use Rattle.frame_draw.specs.declared.planes.Kept.{Kept}
+
+-- the plane of this composition at this tick stands at this place
+abbrev pub StandsAt : {most : ℕ} → List (Kept most) → ℕ → ℤ → ℕ → Type 0
+StandsAt {most} kept comp tick place =
+    (entry : Kept most) × (slice_get kept place ≡ Some entry) × (entry.comp ≡ comp) × (entry.tick.0 ≡ tick)
+
+-- it is what the composition shows
+abbrev pub IsRight : {most : ℕ} → PlainScene → Kept most → Type 0
+IsRight scene entry = plane_of entry.world ≡ plane scene (Stack entry.comp) entry.tick.0
+
+abbrev pub AreRight : {most : ℕ} → PlainScene → List (Kept most) → Type 0
+AreRight {most} scene kept = AllByRecursion (IsRight {most = most} scene) kept
+
+-- so many rows of the picture are drawn, from the top
+abbrev pub HasRows : ℕ → Pictures → ℕ → ℕ → Picture → Type 0
+HasRows most clip picture count world =
+    (x y : ℕ) → x < clip.width → y < count → at world (pos x) (pos y) ≡ pixel_in most clip picture x y
+
+-- the number of a picture, where it is one of so many
+abbrev pub picture_among : ℤ → ℕ → Option ℕ
+picture_among picture frames = if int_le (pos 0) picture && int_lt picture (pos frames) then Some (unsigned_abs picture) else None

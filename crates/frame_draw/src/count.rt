@@ -1,0 +1,56 @@
+//! How often a frame uses what its compositions show.
+ghost use Rattle.std.specs.Prelude.{◌<◌, length};
+ghost use Rattle.frame_draw.specs.Layers.{IsLayerOf};
+
+use crate::layers::{
+    base_of, comp_at, has_matte, is_in_time, is_seen, serves_as_matte, since_start,
+};
+use crate::planes::{Use, add_use};
+use host_io::Memory;
+use project_model::{Item, Layer};
+use rational_time::Tick;
+use scene_meaning::Scene;
+
+/// Notes the uses that a composition makes of others at a tick, and those that these make in turn, each once.
+#[cycle(count)]
+pub(crate) fn count_uses(
+    scene: &Scene,
+    uses: &mut Vec<Use>,
+    index: u32,
+    tick: Tick,
+) -> Result<(), Memory>
+    requires { index < length scene.now.project.comps }
+{
+    let base = base_of(scene);
+    let comp = comp_at(scene, index);
+    if !is_in_time(base, comp, tick) {
+        return Ok(());
+    }
+    for at in 0..comp.layers.as_slice().len() {
+        let layer = &comp.layers.as_slice()[at];
+        if is_seen(base, comp, layer, tick) && !serves_as_matte(comp, at) {
+            count_source(scene, uses, layer, tick)?;
+            if at > 0 && has_matte(layer) {
+                let above = &comp.layers.as_slice()[at - 1];
+                if is_seen(base, comp, above, tick) {
+                    count_source(scene, uses, above, tick)?;
+                }
+            }
+        }
+    }
+    Ok(())
+}
+
+// Notes the use of a layer's source at a tick.
+#[cycle(count)]
+fn count_source(scene: &Scene, uses: &mut Vec<Use>, layer: &Layer, tick: Tick) -> Result<(), Memory>
+    requires { IsLayerOf scene.now.project layer.now }
+{
+    if let Item::Comp(index) = layer.source {
+        let since = since_start(base_of(scene), layer, tick);
+        if add_use(uses, index, since)? {
+            count_uses(scene, uses, index, since)?;
+        }
+    }
+    Ok(())
+}

@@ -1,0 +1,82 @@
+//! The planes of compositions that a frame uses more than once.
+ghost use Rattle.std.specs.Prelude.{◌≡◌, IfOk, IfSome};
+ghost use Rattle.argb_pixel.specs.Depth.{IsDepth};
+ghost use Rattle.comp_stack.specs.Layers.{plane_of};
+ghost use Rattle.frame_draw.specs.Kept.{StandsAt};
+
+use argb_world::World;
+use host_io::Memory;
+use rational_time::Tick;
+use std::alloc::Global;
+
+/// How often a frame still uses what a composition shows at a tick.
+#[derive(Drop)]
+pub(crate) struct Use {
+    comp: u32,
+    tick: Tick,
+    times: u32,
+}
+
+/// What a composition shows at a tick.
+#[derive(Drop)]
+pub(crate) struct Kept<const MAX: u32> {
+    pub(crate) comp: u32,
+    pub(crate) tick: Tick,
+    pub(crate) world: World<MAX>,
+}
+
+/// The planes that are kept while a frame is drawn.
+#[derive(Drop)]
+pub(crate) struct Planes<const MAX: u32> {
+    pub(crate) uses: Vec<Use>,
+    pub(crate) kept: Vec<Kept<MAX>>,
+}
+
+/// Notes one more use, and says whether it is the first. The count stays where it is the greatest.
+pub(crate) fn add_use(uses: &mut Vec<Use>, comp: u32, tick: Tick) -> Result<bool, Memory> {
+    for entry in uses.iter_mut() {
+        if entry.comp == comp && entry.tick.0 == tick.0 {
+            entry.times = entry.times.saturating_add(1);
+            return Ok(false);
+        }
+    }
+    uses.push(Use {
+        comp,
+        tick,
+        times: 1,
+    })?;
+    Ok(true)
+}
+
+/// Takes one use off, and says whether there are more.
+pub(crate) fn spend_use(uses: &mut [Use], comp: u32, tick: Tick) -> bool {
+    for entry in uses.iter_mut() {
+        if entry.comp == comp && entry.tick.0 == tick.0 {
+            entry.times = entry.times.saturating_sub(1);
+            return entry.times > 0;
+        }
+    }
+    false
+}
+
+/// Where the plane of a composition at a tick is kept, if it is.
+pub(crate) fn find_kept<const MAX: u32>(kept: &[Kept<MAX>], comp: u32, tick: Tick) -> Option<usize>
+    ensures { IfSome result (StandsAt kept.now comp tick.0) }
+{
+    for (place, entry) in kept.iter().enumerate() {
+        if entry.comp == comp && entry.tick.0 == tick.0 {
+            return Some(place);
+        }
+    }
+    None
+}
+
+/// The same plane once more.
+pub(crate) fn copied<const MAX: u32>(
+    alloc: Global,
+    world: &World<MAX>,
+) -> Result<World<MAX>, Memory>
+    ensures { IfOk result (λ copy. plane_of copy ≡ plane_of world.now) }
+{
+    world.crop(alloc, world.part())
+}
