@@ -1,11 +1,12 @@
-//! The program: renders the project on standard input to standard output, as an AFR file.
+//! The program: renders the project on standard input to standard output, as an AFR file. Its clips are the files of the folder
+//! `clips` below the current one.
 #![tactic(auto)]
 
 ghost use Rattle.std.specs.Prelude.{◌≡◌};
 ghost use Rattle.std.specs.declared.io.ErrorKind.TheVariants.{OutOfMemory};
 ghost use Rattle.host_run.specs.declared.arguments.ArgumentsError.TheVariants.{NotText, Memory};
 
-use host_io::{StdNotes, StdSink, StdSource};
+use host_io::{DiskClips, StdNotes, StdSink, StdSource};
 use host_run::{ArgumentsError, program};
 use std::env;
 use std::io::ErrorKind;
@@ -35,11 +36,18 @@ fn arguments(rt: &HostRuntime) -> Result<Vec<String>, ArgumentsError> {
 }
 
 fn main(rt: HostRuntime) -> ExitCode {
+    let arguments = arguments(&rt);
+    let mut project = StdSource::new(rt.stdin());
+    let mut out = StdSink::new(rt.stdout());
+    let mut notes = StdNotes::new(rt.stderr());
+    let alloc = rt.alloc();
+    let mut clips = DiskClips::new(rt);
     program(
-        rt.alloc(),
-        arguments(&rt),
-        &mut StdSource::new(rt.stdin()),
-        &mut StdSink::new(rt.stdout()),
-        &mut StdNotes::new(rt.stderr()),
+        alloc,
+        arguments,
+        &mut project,
+        &mut clips,
+        &mut out,
+        &mut notes,
     )
 }

@@ -1,5 +1,5 @@
 -- The code 0 is that of Ok.
-use Rattle.std.proofs.Common.{◌≡◌, ℕ, ◌⊎◌, inl, inr, Err, refl, sym, ap, ◌∙◌}
+use Rattle.std.proofs.Common.{◌≡◌, ℕ, ◌⊎◌, inl, inr, Err, refl, sym, ◌∙◌}
 use Rattle.host_io.specs.Status.{number_of}
 use Rattle.host_io.specs.declared.status.Status.{Status}
 use Rattle.host_io.specs.declared.status.Status.TheVariants as status

@@ -1,5 +1,5 @@
 -- The frames of a file, one after another, and the bytes of a picture.
-use Rattle.std.proofs.Common.{◌≡◌, ℕ, zero, suc, ◌+◌, ℤ, pos, ◌+ℤ◌, List, [], ◌∷◌, ◌++◌, true, false, Bool, IsTrue, inl, inr, refl, sym, ap, ◌∙◌, arith}
+use Rattle.std.proofs.Common.{◌≡◌, ℕ, zero, suc, ◌+◌, ℤ, pos, ◌+ℤ◌, List, [], ◌∷◌, ◌++◌, true, false, Bool, IsTrue, Option, Some, None, inl, inr, refl, sym, ap, ◌∙◌, arith}
 use Rattle.std.specs.Prelude.{flat_map, ◌||◌, ◌==◌, ◌⊎◌}
 use Rattle.std.specs.List.{range_with_len}
 use Rattle.std.proofs.Math.IntN.{+ℤ_idl, +ℤ_idr}
@@ -13,11 +13,10 @@ use Rattle.argb_world.specs.Picture.{Picture, at}
 use Rattle.frame_file.specs.Afr.{pixel_bytes, row_bytes, picture_bytes, depth_of, world_bytes}
 use Rattle.frame_draw.specs.Drawn.{IsFrame}
 use Rattle.project_model.specs.Bounds.{most_of, is_bit_depth}
-use Rattle.project_model.specs.Plain.{plain_of, plain_comp}
-use Rattle.project_model.specs.declared.comp.Comp.{Comp}
-use Rattle.project_model.specs.declared.project.Project.{Project}
-use Rattle.scene_meaning.specs.Shown.{shown}
-use Rattle.scene_meaning.specs.Output.{frame_bytes, frame_tick}
+use Rattle.project_model.specs.declared.plain.PlainComp.{PlainComp}
+use Rattle.project_model.specs.declared.plain.PlainProject.{PlainProject}
+use Rattle.scene_meaning.specs.Shown.{PlainScene, shown}
+use Rattle.scene_meaning.specs.Output.{frame_bytes, frame_tick, frame_count, root_of}
 use Rattle.host_run.specs.Written.{IsPrefix}
 use Rattle.host_run.proofs.Known.{prefix_trans}
 
@@ -72,17 +71,32 @@ depth_back depth bits =
       | inr is_16 ↦ ap (λ d. depth_of (most_of d)) is_16 ∙ sym is_16
     ]
 
+-- the root has so many frames
+pub count_is : (p : PlainProject) (comp : PlainComp) → root_of p ≡ Some comp → frame_count p ≡ comp.frames
+count_is p comp e =
+    let count_at : Option PlainComp → ℕ = λ o. elim o [ None ↦ 0 | Some root ↦ root.frames ] in
+    ap count_at e
+
 -- a picture that shows a frame has the frame's bytes
-pub frame_as_bytes : (most : ℕ) (p : Project) (comp : Comp) (n : ℕ) (world : Picture) → most ≡ most_of p.depth → IsTrue (is_bit_depth p.depth)
-    → IsFrame p comp n world → world_bytes most world ≡ frame_bytes (plain_of p) (plain_comp comp) n
-frame_as_bytes most p comp n world most_is bits drawn =
-    let over : ℕ → Rect → List ℕ = λ depth r.
-    picture_bytes depth (width_of r) (count_between r.top r.bottom) (λ x y. at world (r.left +ℤ x) (r.top +ℤ y)) in
+frame_of : (most : ℕ) (scene : PlainScene) (n : ℕ) (world : Picture) → most ≡ most_of scene.project.depth → IsTrue (is_bit_depth scene.project.depth)
+    → (drawn : IsFrame scene n world) → world_bytes most world ≡ frame_bytes scene drawn.comp n
+frame_of most scene n world most_is bits drawn =
+    let comp = drawn.comp in
+    let depth = scene.project.depth in
+    let over : ℕ → Rect → List ℕ = λ d r.
+    picture_bytes d (width_of r) (count_between r.top r.bottom) (λ x y. at world (r.left +ℤ x) (r.top +ℤ y)) in
     let here : ℤ → ℤ → Argb = λ x y. at world (pos 0 +ℤ x) (pos 0 +ℤ y) in
-    let depth_is : depth_of most ≡ p.depth = ap depth_of most_is ∙ depth_back p.depth bits in
-    ap (λ depth. over depth world.part) depth_is
-    ∙ ap (over p.depth) drawn.part
-    ∙ ap (λ width. picture_bytes p.depth width (count_between (pos 0) (pos comp.height)) here) (count_from_zero comp.width)
-    ∙ ap (λ height. picture_bytes p.depth comp.width height here) (count_from_zero comp.height)
-    ∙ picture_same p.depth comp.width comp.height here (shown (plain_of p) p.root (frame_tick (plain_of p) (plain_comp comp) n))
+    let depth_is : depth_of most ≡ depth = ap depth_of most_is ∙ depth_back depth bits in
+    ap (λ d. over d world.part) depth_is
+    ∙ ap (over depth) drawn.part
+    ∙ ap (λ width. picture_bytes depth width (count_between (pos 0) (pos comp.height)) here) (count_from_zero comp.width)
+    ∙ ap (λ height. picture_bytes depth comp.width height here) (count_from_zero comp.height)
+    ∙ picture_same depth comp.width comp.height here (shown scene scene.project.root (frame_tick scene.project comp n))
     (λ x y. ap (λ a. at world a (pos 0 +ℤ y)) (+ℤ_idl x) ∙ ap (λ b. at world x b) (+ℤ_idl y) ∙ drawn.points x y)
+
+pub frame_as_bytes : (most : ℕ) (scene : PlainScene) (comp : PlainComp) (n : ℕ) (world : Picture) → most ≡ most_of scene.project.depth
+    → IsTrue (is_bit_depth scene.project.depth) → root_of scene.project ≡ Some comp → IsFrame scene n world
+    → world_bytes most world ≡ frame_bytes scene comp n
+frame_as_bytes most scene comp n world most_is bits root drawn =
+    let same : drawn.comp ≡ comp = cc (root, drawn.root) in
+    frame_of most scene n world most_is bits drawn ∙ ap (λ c. frame_bytes scene c n) same

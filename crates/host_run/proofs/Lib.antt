@@ -2,3 +2,4 @@ pub mod Ended
 pub mod Exit
 pub mod Frames
 pub mod Known
+pub mod Loaded

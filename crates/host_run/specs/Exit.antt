@@ -1,17 +1,17 @@
 -- The code that the program ends with.
-use Rattle.std.specs.Prelude.{◌≡◌, ℕ, Option, Result, Err}
+use Rattle.std.specs.Prelude.{◌≡◌, ℕ, Option, Err}
 use Rattle.std.specs.Io.KnownBytes.{Keeps}
 use Rattle.host_io.specs.Status.{number_of}
 use Rattle.host_io.specs.declared.status.Status.{Status}
-use Rattle.host_run.specs.Run.{Seen, WorksWell, IsNoted, HasRun}
+use Rattle.host_run.specs.Run.{Seen, SeenStore, WorksWell, IsNoted, HasRun, calls_of}
 use Rattle.host_run.specs.declared.notes.Ending.{Ending}
 use Rattle.host_run.specs.declared.settings.Settings.{Settings}
 
 -- it is the number of the status of a run with these settings, none where the words are refused
-pub record HasExited (asked : Option Settings) (code : ℕ) (source sink notes : Seen) : Type 0 where
+pub record HasExited (asked : Option Settings) (code : ℕ) (source : Seen) (store : SeenStore) (sink notes : Seen) : Type 0 where
   pub status : Status
   pub code_is : code ≡ number_of status
-  pub run : HasRun asked status source sink notes
+  pub run : HasRun asked status source store sink notes
 
 -- nothing was done to the object
 pub record IsUntouched (seen : Seen) : Type 0 where
@@ -19,9 +19,10 @@ pub record IsUntouched (seen : Seen) : Type 0 where
   pub works : WorksWell seen
 
 -- nothing was read and nothing written but the note that says so, or a front of it
-pub record HasRefused (end : Ending) (code : ℕ) (source sink notes : Seen) : Type 0 where
+pub record HasRefused (end : Ending) (code : ℕ) (source : Seen) (store : SeenStore) (sink notes : Seen) : Type 0 where
   pub status : Status
   pub code_is : code ≡ number_of status
   pub noted : IsNoted (Err end) status notes
   pub source_left : IsUntouched source
+  pub store_left : (store.clips_now ≡ store.clips) × WorksWell (calls_of store)
   pub sink_left : IsUntouched sink

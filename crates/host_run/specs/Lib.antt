@@ -1,5 +1,6 @@
 pub mod Ending
 pub mod Exit
+pub mod Found
 pub mod Headline
 pub mod Input
 pub mod Laws

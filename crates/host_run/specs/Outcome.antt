@@ -1,11 +1,14 @@
--- What the words and the bytes of a project come to: the first of these that applies.
+-- What the words, the bytes of a project and its clips come to: the first of these that applies.
 use Rattle.std.specs.Prelude.{◌≡◌, ℕ, ◌&&◌, ◌-◌, List, [], length, Bool, true, false, nat_lt, nat_le, if◌then◌else◌, Option, Some, None, Result, Ok, Err, unwrap_or}
 use Rattle.project_model.specs.declared.plain.PlainProject.{PlainProject}
 use Rattle.project_json.specs.declared.error.ProjectError.{ProjectError}
 use Rattle.project_json.specs.declared.error.ProjectError.TheVariants as project
 use Rattle.project_json.specs.Reading.{project_of}
+use Rattle.frame_file.specs.Clip.{Pictures}
 use Rattle.host_run.specs.declared.input.TheConstants.{LONGEST_TEXT}
+use Rattle.scene_meaning.specs.Shown.{PlainScene}
 use Rattle.scene_meaning.specs.Output.{file, frame_count}
+use Rattle.host_run.specs.Found.{Found, Refusal, missing, refused, clips_from}
 use Rattle.host_run.specs.declared.settings.Settings.{Settings}
 use Rattle.host_run.specs.declared.notes.Ending.{Ending}
 use Rattle.host_run.specs.declared.notes.Ending.TheVariants as ending
@@ -14,34 +17,41 @@ pub data Outcome : Type 0 where
   words_refused : Outcome
   project_too_long : Outcome
   project_refused : ProjectError → Outcome
+  -- the first clip that is missing or refused
+  clip_refused : Refusal → Outcome
   -- the first and the last frame that were asked for, and how many there are
   span_refused : ℕ → ℕ → ℕ → Outcome
-  -- the project, and the first and the last frame of the span
-  accepted : PlainProject → ℕ → ℕ → Outcome
+  -- the project with its clips, and the first and the last frame of the span
+  accepted : PlainScene → ℕ → ℕ → Outcome
 
 -- the last frame that is asked for
 abbrev pub last_asked : Settings → PlainProject → ℕ
 last_asked settings project = unwrap_or settings.to (frame_count project - 1)
 
 -- the span lies in the root
-abbrev pub outcome_of_span : PlainProject → ℕ → ℕ → Outcome
-outcome_of_span project from to =
-    if nat_le from to && nat_lt to (frame_count project)
-    then accepted project from to
-    else span_refused from to (frame_count project)
+abbrev pub outcome_of_span : PlainScene → ℕ → ℕ → Outcome
+outcome_of_span scene from to =
+    if nat_le from to && nat_lt to (frame_count scene.project)
+    then accepted scene from to
+    else span_refused from to (frame_count scene.project)
 
-abbrev pub outcome_of_reading : Settings → Result PlainProject ProjectError → Outcome
-outcome_of_reading settings (Err error) = project_refused error
-outcome_of_reading settings (Ok project) = outcome_of_span project settings.from (last_asked settings project)
+abbrev pub outcome_of_clips : Settings → PlainProject → Result (List Pictures) Refusal → Outcome
+outcome_of_clips settings project (Err refusal) = clip_refused refusal
+outcome_of_clips settings project (Ok clips) =
+    outcome_of_span record { project = project; clips = clips } settings.from (last_asked settings project)
 
-abbrev pub outcome_of_text : Settings → List ℕ → Outcome
-outcome_of_text settings bytes =
-    if nat_lt LONGEST_TEXT (length bytes) then project_too_long else outcome_of_reading settings (project_of bytes)
+abbrev pub outcome_of_reading : Settings → Found → Result PlainProject ProjectError → Outcome
+outcome_of_reading settings found (Err error) = project_refused error
+outcome_of_reading settings found (Ok project) = outcome_of_clips settings project (clips_from found 0 project.clips)
 
--- of the settings, none where the words are refused, and the bytes
-abbrev pub outcome : Option Settings → List ℕ → Outcome
-outcome None bytes = words_refused
-outcome (Some settings) bytes = outcome_of_text settings bytes
+abbrev pub outcome_of_text : Settings → List ℕ → Found → Outcome
+outcome_of_text settings bytes found =
+    if nat_lt LONGEST_TEXT (length bytes) then project_too_long else outcome_of_reading settings found (project_of bytes)
+
+-- of the settings, none where the words are refused, the bytes, and what was found of the clips
+abbrev pub outcome : Option Settings → List ℕ → Found → Outcome
+outcome None bytes found = words_refused
+outcome (Some settings) bytes found = outcome_of_text settings bytes found
 
 -- how a run ends where no fault and no want of memory comes before
 abbrev pub end_of : Outcome → Result (Unit {0}) Ending
@@ -50,16 +60,19 @@ end_of project_too_long = Err ending.ProjectTooLong
 end_of (project_refused project.NotJson) = Err ending.NotJson
 end_of (project_refused (project.Rule number comp layer)) = Err (ending.Rule number)
 end_of (project_refused project.Memory) = Err ending.Memory
+end_of (clip_refused (missing name)) = Err (ending.ClipMissing name)
+end_of (clip_refused (refused name why)) = Err (ending.ClipRefused name why)
 end_of (span_refused from to count) = Err (ending.Span from to count)
-end_of (accepted project from to) = Ok tt
+end_of (accepted scene from to) = Ok tt
 
 -- what it then writes
 abbrev pub output : Outcome → List ℕ
 output words_refused = []
 output project_too_long = []
 output (project_refused error) = []
+output (clip_refused refusal) = []
 output (span_refused from to count) = []
-output (accepted project from to) = file project from to
+output (accepted scene from to) = file scene from to
 
 -- there is something to write
 abbrev pub IsAccepted : Outcome → Type 0
@@ -70,5 +83,6 @@ abbrev pub is_read_on : Outcome → Bool
 is_read_on words_refused = false
 is_read_on project_too_long = false
 is_read_on (project_refused error) = true
+is_read_on (clip_refused refusal) = true
 is_read_on (span_refused from to count) = true
-is_read_on (accepted project from to) = true
+is_read_on (accepted scene from to) = true

@@ -1,15 +1,20 @@
--- How a run ended, and what it did with its source, its sink and its notes. In each, 'before' is as the run began.
-use Rattle.std.specs.Prelude.{◌≡◌, ℕ, ◌<◌, ◌⊎◌, Option, List, Result, Ok, Err, IsTrue}
+-- How a run ended, and what it did with its source, its clips, its sink and its notes. In each, 'before' is as the run began.
+use Rattle.std.specs.Prelude.{◌≡◌, ℕ, ◌<◌, ◌≤◌, ◌⊎◌, Option, Some, None, List, length, Result, Ok, Err, IsTrue}
 use Rattle.std.specs.Io.KnownBytes.{Keeps, Appends, Consumes, IsAtEnd}
 use Rattle.host_io.specs.Cause.{Rose, last_count}
 use Rattle.host_io.specs.declared.status.Status.{Status}
 use Rattle.host_io.specs.declared.status.Status.TheVariants as status
+use Rattle.host_io.specs.Clips.{ClipMap}
+use Rattle.project_model.specs.declared.plain.PlainProject.{PlainProject}
+use Rattle.project_json.specs.Reading.{project_of}
 use Rattle.host_run.specs.Ending.{status_of_end, note_of_end}
+use Rattle.host_run.specs.Found.{Found, IsFoundIn, IsReached}
 use Rattle.host_run.specs.Outcome.{Outcome, outcome, end_of, output, IsAccepted, is_read_on}
 use Rattle.host_run.specs.Written.{AppendsFront}
 use Rattle.host_run.specs.declared.settings.Settings.{Settings}
 use Rattle.host_run.specs.declared.notes.Ending.{Ending}
-use Rattle.host_run.specs.declared.notes.Ending.TheVariants.{Words, ReadFault, WriteFault, Memory, ProjectTooLong}
+use Rattle.host_run.specs.declared.notes.Ending.TheVariants.{Words, ClipFault, ReadFault, WriteFault, Memory, ProjectTooLong}
+use Rattle.host_run.specs.declared.input.TheConstants.{LONGEST_TEXT}
 
 -- what was seen of an object: its bytes that are left or written, where it tells them, and its count of faults
 pub record Seen : Type 0 where
@@ -27,6 +32,25 @@ seen_of bytes faults before now = record {
   faults_now = faults now;
 }
 
+-- what was seen of a store of clips: its clips, where it tells them, and its count of faults
+pub record SeenStore : Type 0 where
+  pub clips : Option ClipMap
+  pub clips_now : Option ClipMap
+  pub faults_before : ℕ
+  pub faults_now : ℕ
+
+abbrev pub seen_store : {A : Type 0} → (A → Option ClipMap) → (A → ℕ) → A → A → SeenStore
+seen_store clips faults before now = record {
+  clips = clips before;
+  clips_now = clips now;
+  faults_before = faults before;
+  faults_now = faults now;
+}
+
+-- its calls, as those of an object that tells no bytes
+abbrev pub calls_of : SeenStore → Seen
+calls_of store = record { before = None; now = None; faults_before = store.faults_before; faults_now = store.faults_now }
+
 -- no fault was counted
 abbrev pub WorksWell : Seen → Type 0
 WorksWell seen = seen.faults_now ≡ seen.faults_before
@@ -40,13 +64,29 @@ pub record IsQuiet (seen : Seen) : Type 0 where
   pub same : seen.faults_now ≡ seen.faults_before
   pub below_end : seen.faults_before < last_count
 
--- The cause of the end: what the words and the bytes come to, or a fault that was counted, or want of memory. A source is not
--- read where the words are refused, nor past a text that is too long.
-abbrev pub IsCaused : Outcome → Result (Unit {0}) Ending → Seen → Seen → Type 0
-IsCaused o (Err ReadFault) source sink = IsTrue (is_read_on o) × Fails source × WorksWell sink
-IsCaused o (Err WriteFault) source sink = IsAccepted o × WorksWell source × Fails sink
-IsCaused o (Err Memory) source sink = WorksWell source × WorksWell sink
-IsCaused o end source sink = (end ≡ end_of o) × WorksWell source × WorksWell sink
+-- The words are accepted, the bytes are read as a project that declares a clip of this name, and none of its clips before that one
+-- is missing or refused.
+pub record IsAsked (asked : Option Settings) (bytes : List ℕ) (found : Found) (name : List ℕ) : Type 0 where
+  pub settings : Settings
+  pub words : asked ≡ Some settings
+  pub short : length bytes ≤ LONGEST_TEXT
+  pub project : PlainProject
+  pub read : project_of bytes ≡ Ok project
+  pub reached : IsReached found project.clips name
+
+-- The cause of the end: what the words, the bytes and the clips come to, or a fault that was counted, or want of memory. A source
+-- is not read where the words are refused, nor past a text that is too long. A store's fault stands at a clip before which none is
+-- missing or refused.
+abbrev pub IsCaused : Option Settings → List ℕ → Found → Result (Unit {0}) Ending → Seen → SeenStore → Seen → Type 0
+IsCaused asked bytes found (Err ReadFault) source store sink =
+    IsTrue (is_read_on (outcome asked bytes found)) × Fails source × WorksWell (calls_of store) × WorksWell sink
+IsCaused asked bytes found (Err (ClipFault name)) source store sink =
+    IsAsked asked bytes found name × WorksWell source × Fails (calls_of store) × WorksWell sink
+IsCaused asked bytes found (Err WriteFault) source store sink =
+    IsAccepted (outcome asked bytes found) × WorksWell source × WorksWell (calls_of store) × Fails sink
+IsCaused asked bytes found (Err Memory) source store sink = WorksWell source × WorksWell (calls_of store) × WorksWell sink
+IsCaused asked bytes found end source store sink =
+    (end ≡ end_of (outcome asked bytes found)) × WorksWell source × WorksWell (calls_of store) × WorksWell sink
 
 -- what is left of the source: nothing, but where it was not read to its end
 abbrev pub Leaves : Result (Unit {0}) Ending → Seen → Type 0
@@ -75,17 +115,20 @@ pub record IsNoted (end : Result (Unit {0}) Ending) (s : Status) (notes : Seen) 
   pub front : AppendsFront notes.before notes.now (note_of_end end)
   pub whole : IsQuiet notes → (s ≡ status.Memory) ⊎ Appends notes.before notes.now (note_of_end end)
 
--- With these settings, none where the words are refused: the bytes that the source handed out, the cause of the end, and what
--- follows from them.
-pub record HasEnded (asked : Option Settings) (end : Result (Unit {0}) Ending) (source sink : Seen) : Type 0 where
+-- With these settings, none where the words are refused: the bytes that the source handed out, what was found of the clips, which
+-- are what they were, the cause of the end, and what follows from them.
+pub record HasEnded (asked : Option Settings) (end : Result (Unit {0}) Ending) (source : Seen) (store : SeenStore) (sink : Seen) : Type 0 where
   pub bytes : List ℕ
   pub taken : Consumes source.before source.now bytes
-  pub caused : IsCaused (outcome asked bytes) end source sink
+  pub found : Found
+  pub handed : IsFoundIn store.clips found
+  pub kept : store.clips_now ≡ store.clips
+  pub caused : IsCaused asked bytes found end source store sink
   pub left : Leaves end source
-  pub written : Writes (outcome asked bytes) end source sink
+  pub written : Writes (outcome asked bytes found) end source sink
 
 -- a run ended so, and said it
-pub record HasRun (asked : Option Settings) (s : Status) (source sink notes : Seen) : Type 0 where
+pub record HasRun (asked : Option Settings) (s : Status) (source : Seen) (store : SeenStore) (sink notes : Seen) : Type 0 where
   pub end : Result (Unit {0}) Ending
-  pub ended : HasEnded asked end source sink
+  pub ended : HasEnded asked end source store sink
   pub noted : IsNoted end s notes

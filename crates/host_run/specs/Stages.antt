@@ -1,4 +1,4 @@
--- What the steps of a run say of themselves: reading the project, and finding the span.
+-- What the steps of a run say of themselves: reading the project, reading its clips, and finding the span.
 use Rattle.std.specs.Prelude.{◌≡◌, ℕ, ◌<◌, ◌≤◌, List, length, Option, Result, Ok, Err}
 use Rattle.std.specs.Io.KnownBytes.{Consumes, IsAtEnd}
 use Rattle.project_model.specs.declared.plain.PlainProject.{PlainProject}
@@ -9,7 +9,10 @@ use Rattle.project_json.specs.Reading.{project_of}
 use Rattle.project_json.specs.declared.error.ProjectError.TheVariants as project
 use Rattle.scene_meaning.specs.Output.{frame_count}
 use Rattle.host_run.specs.Outcome.{accepted, span_refused, outcome_of_span, last_asked}
-use Rattle.host_run.specs.Run.{Seen, WorksWell, Fails}
+use Rattle.scene_meaning.specs.Scene.{SceneParts}
+use Rattle.scene_meaning.specs.Shown.{PlainScene}
+use Rattle.host_run.specs.Found.{Found, IsFoundIn, IsReached, missing, refused, clips_from}
+use Rattle.host_run.specs.Run.{Seen, SeenStore, WorksWell, Fails, calls_of}
 use Rattle.host_run.specs.declared.input.TheConstants.{LONGEST_TEXT}
 use Rattle.host_run.specs.declared.settings.Settings.{Settings}
 use Rattle.host_run.specs.declared.span.Span.{Span}
@@ -33,6 +36,9 @@ Reads (Err ending.ProjectTooLong) bytes source = WorksWell source × (LONGEST_TE
 Reads (Err ending.Memory) bytes source = WorksWell source
 Reads (Err ending.Words) bytes source = ⊥
 Reads (Err ending.WriteFault) bytes source = ⊥
+Reads (Err (ending.ClipMissing name)) bytes source = ⊥
+Reads (Err (ending.ClipRefused name why)) bytes source = ⊥
+Reads (Err (ending.ClipFault name)) bytes source = ⊥
 Reads (Err (ending.Span from to count)) bytes source = ⊥
 
 pub record HasRead (result : Result Project Ending) (source : Seen) : Type 0 where
@@ -40,12 +46,36 @@ pub record HasRead (result : Result Project Ending) (source : Seen) : Type 0 whe
   pub taken : Consumes source.before source.now bytes
   pub reads : Reads result bytes source
 
+-- what the clips of the project come to, or why not all were asked for
+abbrev pub Loads : Project → Found → Result SceneParts Ending → Seen → Type 0
+Loads project found (Ok scene) calls =
+    WorksWell calls × (scene.project ≡ project) × (clips_from found 0 project.clips ≡ Ok scene.clips)
+Loads project found (Err (ending.ClipMissing name)) calls =
+    WorksWell calls × (clips_from found 0 project.clips ≡ Err (missing name))
+Loads project found (Err (ending.ClipRefused name why)) calls =
+    WorksWell calls × (clips_from found 0 project.clips ≡ Err (refused name why))
+Loads project found (Err (ending.ClipFault name)) calls = Fails calls × IsReached found project.clips name
+Loads project found (Err ending.Memory) calls = WorksWell calls
+Loads project found (Err ending.Words) calls = ⊥
+Loads project found (Err ending.NotJson) calls = ⊥
+Loads project found (Err (ending.Rule number)) calls = ⊥
+Loads project found (Err ending.ReadFault) calls = ⊥
+Loads project found (Err ending.WriteFault) calls = ⊥
+Loads project found (Err (ending.Span from to count)) calls = ⊥
+Loads project found (Err ending.ProjectTooLong) calls = ⊥
+
+pub record HasLoaded (project : Project) (result : Result SceneParts Ending) (store : SeenStore) : Type 0 where
+  pub found : Found
+  pub handed : IsFoundIn store.clips found
+  pub loads : Loads project found result (calls_of store)
+
 -- the span that the settings ask for, or its refusal
-abbrev pub HasSpan : Settings → PlainProject → Result Span Ending → Type 0
-HasSpan settings p (Ok span) = outcome_of_span p settings.from (last_asked settings p) ≡ accepted p span.from span.to
-HasSpan settings p (Err (ending.Span from to count)) =
-    outcome_of_span p settings.from (last_asked settings p) ≡ span_refused from to count
-HasSpan settings p (Err other) = ⊥
+abbrev pub HasSpan : Settings → PlainScene → Result Span Ending → Type 0
+HasSpan settings scene (Ok span) =
+    outcome_of_span scene settings.from (last_asked settings scene.project) ≡ accepted scene span.from span.to
+HasSpan settings scene (Err (ending.Span from to count)) =
+    outcome_of_span scene settings.from (last_asked settings scene.project) ≡ span_refused from to count
+HasSpan settings scene (Err other) = ⊥
 
 -- the span lies in the root
 pub record InRoot (p : PlainProject) (span : Span) : Type 0 where

@@ -4,11 +4,11 @@ ghost use Rattle.host_run.specs.Ending.{ending_of_arguments};
 ghost use Rattle.host_run.specs.Exit.{HasExited, HasRefused};
 ghost use Rattle.host_run.specs.Headline.{IsRendered};
 ghost use Rattle.host_run.specs.Words.{words_of};
-ghost use Rattle.host_run.specs.Run.{seen_of};
+ghost use Rattle.host_run.specs.Run.{seen_of, seen_store};
 
 use crate::host::run;
 use crate::notes::{Ending, note};
-use host_io::{Sink, Source, Status};
+use host_io::{ClipStore, Sink, Source, Status};
 use std::alloc::Global;
 use std::process::ExitCode;
 
@@ -22,29 +22,41 @@ pub enum ArgumentsError {
 
 /// Runs with the words behind the first argument, which is the program's name, and answers the code that the process ends with:
 /// the number of the status. Arguments that are not text are refused words.
-pub fn program<S: Source, K: Sink, N: Sink>(
+pub fn program<S: Source, C: ClipStore, K: Sink, N: Sink>(
     alloc: Global,
     arguments: Result<Vec<String>, ArgumentsError>,
     project: &mut S,
+    clips: &mut C,
     out: &mut K,
     notes: &mut N,
 ) -> ExitCode
-    // With the code 0 the bytes written are the file of the span of the project that the bytes left were read as.
+    // With the code 0 the bytes written are the file of the span of the project that the bytes left were read as, with its clips.
     ensures headline { exit_status result ≡ 0 → IsOkAnd arguments (λ a. IsRendered (words_of (map string_bytes (drop 1 a.items)))
-        (seen_of S.left S.faults project.old project.new) (seen_of K.written K.faults out.old out.new)) }
+        (seen_of S.left S.faults project.old project.new) (seen_store C.clips C.faults clips.old clips.new)
+        (seen_of K.written K.faults out.old out.new)) }
 
     // The code is the number of the status of a run with the words behind the first argument.
     ensures ran { IfOk arguments (λ a. HasExited (words_of (map string_bytes (drop 1 a.items))) (exit_status result)
-        (seen_of S.left S.faults project.old project.new) (seen_of K.written K.faults out.old out.new)
-        (seen_of N.written N.faults notes.old notes.new)) }
+        (seen_of S.left S.faults project.old project.new) (seen_store C.clips C.faults clips.old clips.new)
+        (seen_of K.written K.faults out.old out.new) (seen_of N.written N.faults notes.old notes.new)) }
+
+    // The store holds what it held.
+    ensures kept { C.clips clips.new ≡ C.clips clips.old }
 
     // Without arguments nothing is read and nothing written but the note.
     ensures refused { IfErr arguments (λ e. HasRefused (ending_of_arguments e) (exit_status result)
-        (seen_of S.left S.faults project.old project.new) (seen_of K.written K.faults out.old out.new)
-        (seen_of N.written N.faults notes.old notes.new)) }
+        (seen_of S.left S.faults project.old project.new) (seen_store C.clips C.faults clips.old clips.new)
+        (seen_of K.written K.faults out.old out.new) (seen_of N.written N.faults notes.old notes.new)) }
 {
     let status = match arguments {
-        Ok(arguments) => run(alloc, &after_the_name(arguments), project, out, notes),
+        Ok(arguments) => run(
+            alloc,
+            &after_the_name(arguments),
+            project,
+            clips,
+            out,
+            notes,
+        ),
         Err(error) => note(alloc, Ending::of_arguments(error), notes),
     };
     ExitCode::from(status.number())

@@ -1,19 +1,21 @@
-ghost use Rattle.std.specs.Prelude.{◌≡◌, ◌<◌, ◌≤◌, map, string_bytes, slice_get, IfOk, Some};
+ghost use Rattle.std.specs.Prelude.{◌≡◌, map, string_bytes, IfOk};
 ghost use Rattle.project_model.specs.Plain.{plain_of};
-ghost use Rattle.project_model.specs.Sound.{IsSound};
-ghost use Rattle.host_run.specs.Headline.{IsRendered, IsAnswered, IsComplete};
-ghost use Rattle.host_run.specs.Run.{HasEnded, HasRun, seen_of};
+ghost use Rattle.scene_meaning.specs.Scene.{plain_scene};
+ghost use Rattle.host_run.specs.Headline.{IsRendered, IsAnswered};
+ghost use Rattle.host_run.specs.Run.{HasEnded, HasRun, seen_of, seen_store};
 ghost use Rattle.host_run.specs.Stages.{HasRead, HasSpan, InRoot};
 ghost use Rattle.host_run.specs.Words.{words_of};
 
+use crate::clips::read_clips;
 use crate::input::{ReadError, read_to_end};
 use crate::notes::{Ending, note};
 use crate::settings::Settings;
 use crate::span::{Span, root_of, write_span};
 use crate::words::{WordsError, read_words};
-use host_io::{Sink, SinkError, Source, Status};
+use host_io::{ClipStore, Sink, SinkError, Source, Status};
 use project_json::{ProjectError, read_project};
 use project_model::Project;
+use scene_meaning::Scene;
 use std::alloc::Global;
 
 impl Ending {
@@ -73,12 +75,11 @@ fn read_input<S: Source>(alloc: Global, source: &mut S) -> Result<Project, Endin
 }
 
 /// The span that is asked for, where it lies in the root.
-fn span_of(settings: &Settings, project: &Project) -> Result<Span, Ending>
-    requires { IsSound project.now }
-    ensures asked { HasSpan settings.now (plain_of project.now) result }
-    ensures inside { IfOk result (InRoot (plain_of project.now)) }
+fn span_of(settings: &Settings, scene: &Scene) -> Result<Span, Ending>
+    ensures asked { HasSpan settings.now (plain_scene scene.now) result }
+    ensures inside { IfOk result (InRoot (plain_of scene.now.project)) }
 {
-    let count = root_of(project).frames;
+    let count = root_of(scene).frames;
     let from = settings.from;
     let to = settings.to.unwrap_or(count.saturating_sub(1));
     if from <= to && to < count {
@@ -89,14 +90,16 @@ fn span_of(settings: &Settings, project: &Project) -> Result<Span, Ending>
 }
 
 /// Renders a project, or says why not.
-fn render<S: Source, K: Sink>(
+fn render<S: Source, C: ClipStore, K: Sink>(
     alloc: Global,
     words: &[String],
     source: &mut S,
+    clips: &mut C,
     out: &mut K,
 ) -> Result<(), Ending>
     ensures { HasEnded (words_of (map string_bytes words.now)) result
-        (seen_of S.left S.faults source.old source.new) (seen_of K.written K.faults out.old out.new) }
+        (seen_of S.left S.faults source.old source.new) (seen_store C.clips C.faults clips.old clips.new)
+        (seen_of K.written K.faults out.old out.new) }
 {
     let settings = match read_words(alloc, words) {
         Ok(settings) => settings,
@@ -106,51 +109,61 @@ fn render<S: Source, K: Sink>(
         Ok(project) => project,
         Err(ending) => return Err(ending),
     };
-    let span = match span_of(&settings, &project) {
+    let scene = match read_clips(alloc, project, clips) {
+        Ok(scene) => scene,
+        Err(ending) => return Err(ending),
+    };
+    let span = match span_of(&settings, &scene) {
         Ok(span) => span,
         Err(ending) => return Err(ending),
     };
-    match write_span(alloc, &project, span, out) {
+    match write_span(alloc, &scene, span, out) {
         Ok(()) => Ok(()),
         Err(error) => Err(Ending::of_writing(error)),
     }
 }
 
-/// Renders a project: reads its JSON from `project` to the end, draws the frames of its root composition that the words ask
-/// for and writes them to `out` as an AFR file. Where it cannot, it writes a line to `notes`.
+/// Renders a project: reads its JSON from `project` to the end and the clips that it declares from `clips`, in order, draws the
+/// frames of its root composition that the words ask for and writes them to `out` as an AFR file. Where it cannot, it writes a
+/// line to `notes`.
 ///
 /// - `Words`: the words are no settings (see [`crate::read_words`]); nothing is read.
 /// - `ReadFault`: the source failed.
 /// - `ProjectTooLong`: there are more than 67,108,864 bytes, and no read of them failed.
 /// - `Project`: the bytes are not JSON, or not a project (see [`project_json::read_project`]).
+/// - `Clip`: a clip is missing or its bytes are refused (see [`frame_file::load_clips`]), and no call of the store failed before.
+/// - `ClipFault`: the store failed at a clip; none before it is missing or refused.
 /// - `Span`: the first frame that is asked for is behind the last, or the last is not in the root.
 /// - `WriteFault`: the sink failed; a prefix of the file is written.
 /// - `Memory`: memory ran out; a prefix of the file may be written.
-pub fn run<S: Source, K: Sink, N: Sink>(
+pub fn run<S: Source, C: ClipStore, K: Sink, N: Sink>(
     alloc: Global,
     words: &[String],
     project: &mut S,
+    clips: &mut C,
     out: &mut K,
     notes: &mut N,
 ) -> Status
-    // On Ok the bytes written are the file of the span of the project that the bytes left were read as.
+    // On Ok the bytes written are the file of the span of the project that the bytes left were read as, with its clips.
     ensures headline { result ≡ Status.Ok → IsRendered (words_of (map string_bytes words.now))
-        (seen_of S.left S.faults project.old project.new) (seen_of K.written K.faults out.old out.new) }
+        (seen_of S.left S.faults project.old project.new) (seen_store C.clips C.faults clips.old clips.new)
+        (seen_of K.written K.faults out.old out.new) }
 
-    // Where the source tells its bytes and no read failed, the outcome of all of them decides.
+    // Where the source tells its bytes and no read and no call of the store failed, the outcome of all of them decides; an accepted
+    // one is written, where no write failed, but for want of memory.
     ensures answered { IsAnswered (words_of (map string_bytes words.now)) result
-        (seen_of S.left S.faults project.old project.new) }
-
-    // An accepted outcome is written, where no read and no write failed, but for want of memory.
-    ensures complete { IsComplete (words_of (map string_bytes words.now)) result
-        (seen_of S.left S.faults project.old project.new) (seen_of K.written K.faults out.old out.new) }
+        (seen_of S.left S.faults project.old project.new) (seen_store C.clips C.faults clips.old clips.new)
+        (seen_of K.written K.faults out.old out.new) }
 
     // How it ended, by which cause, what is left and what was written, and the note that says so.
     ensures ran { HasRun (words_of (map string_bytes words.now)) result
-        (seen_of S.left S.faults project.old project.new) (seen_of K.written K.faults out.old out.new)
-        (seen_of N.written N.faults notes.old notes.new) }
+        (seen_of S.left S.faults project.old project.new) (seen_store C.clips C.faults clips.old clips.new)
+        (seen_of K.written K.faults out.old out.new) (seen_of N.written N.faults notes.old notes.new) }
+
+    // The store holds what it held.
+    ensures kept { C.clips clips.new ≡ C.clips clips.old }
 {
-    match render(alloc, words, project, out) {
+    match render(alloc, words, project, clips, out) {
         Ok(()) => Status::Ok,
         Err(ending) => note(alloc, ending, notes),
     }

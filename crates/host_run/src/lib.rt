@@ -2,6 +2,7 @@
 #![tactic(auto)]
 
 mod arguments;
+mod clips;
 mod host;
 mod input;
 mod laws;

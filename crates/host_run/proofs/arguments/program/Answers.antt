@@ -1,7 +1,7 @@
-use Rattle.std.proofs.Common.{drop, map, string_bytes, Ok, Err, subst, sym, ap, ◌∙◌}
+use Rattle.std.proofs.Common.{drop, map, string_bytes, subst, sym, ◌∙◌}
 use Rattle.std.specs.Prelude.{IsOkAnd}
 use Rattle.host_run.specs.Headline.{IsRendered}
-use Rattle.host_run.specs.Run.{seen_of}
+use Rattle.host_run.specs.Run.{seen_of, seen_store}
 use Rattle.host_run.specs.Words.{words_of}
 use Rattle.host_run.proofs.Exit.{coded, refused_not_ok}
 use Rattle.host_run.proofs.arguments.program.Goals as goal
@@ -13,11 +13,13 @@ returns-clause-headline g c = λ code.
     elim c.match-arguments.branch [
       | in-Ok w ↦
           let read = seen_of g.S.Source.left g.S.Source.faults c.args.project.now in
+          let held = seen_store g.C.ClipStore.clips g.C.ClipStore.faults c.args.clips.now in
           let written = seen_of g.K.Sink.written g.K.Sink.faults c.args.out.now in
           let done = w.run-status.ensures.headline (sym w.status-is ∙ ok) in
-          subst (λ a. IsOkAnd a (λ b. IsRendered (words_of (map string_bytes (drop 1 b.items))) (read c.match-arguments.project) (written c.match-arguments.out))) (sym w.in-Ok.is)
-          (subst (λ ws. IsRendered (words_of (map string_bytes ws)) (read c.match-arguments.project) (written c.match-arguments.out)) (w.deref.ensures.value ∙ w.after_the_name.ensures)
-          (subst (λ p. IsRendered (words_of (map string_bytes w.deref.result.now)) (read p) (written c.match-arguments.out)) (sym w.project-is)
-          (subst (λ o. IsRendered (words_of (map string_bytes w.deref.result.now)) (read w.run-status.new.project) (written o)) (sym w.out-is) done)))
+          subst (λ a. IsOkAnd a (λ b. IsRendered (words_of (map string_bytes (drop 1 b.items))) (read c.match-arguments.project) (held c.match-arguments.clips) (written c.match-arguments.out))) (sym w.in-Ok.is)
+          (subst (λ ws. IsRendered (words_of (map string_bytes ws)) (read c.match-arguments.project) (held c.match-arguments.clips) (written c.match-arguments.out)) (w.deref.ensures.value ∙ w.after_the_name.ensures)
+          (subst (λ p. IsRendered (words_of (map string_bytes w.deref.result.now)) (read p) (held c.match-arguments.clips) (written c.match-arguments.out)) (sym w.project-is)
+          (subst (λ s. IsRendered (words_of (map string_bytes w.deref.result.now)) (read w.run-status.new.project) (held s) (written c.match-arguments.out)) (sym w.clips-is)
+          (subst (λ o. IsRendered (words_of (map string_bytes w.deref.result.now)) (read w.run-status.new.project) (held w.run-status.new.clips) (written o)) (sym w.out-is) done))))
       | in-Err w ↦ absurd (refused_not_ok w.in-Err.error w.of_arguments.result w.note-status.result w.of_arguments.ensures w.note-status.ensures.told (sym w.status-is ∙ ok))
     ]

@@ -1,24 +1,18 @@
 use Rattle.std.proofs.Common.{Ok, Err, refl}
-use Rattle.host_run.specs.Run.{Seen, seen_of}
-use Rattle.host_run.proofs.Ended.{noted_well, headline_of, answered_of, complete_of}
+use Rattle.host_run.specs.Run.{Seen, SeenStore, seen_of, seen_store}
+use Rattle.host_run.proofs.Ended.{noted_well, headline_of, answered_of}
 use Rattle.host_run.proofs.host.run.Goals as goal
 
 pub returns-in-Ok-clause-ran : goal.returns-in-Ok-clause-ran
 returns-in-Ok-clause-ran g c = record { end = Ok c.in-Ok.field-0; ended = c.in-Ok.ensures; noted = noted_well c.in-Ok.field-0 _ refl }
 
 pub returns-in-Ok-clause-headline : goal.returns-in-Ok-clause-headline
-returns-in-Ok-clause-headline g c = λ ok. headline_of _ _ _ _ _ (returns-in-Ok-clause-ran g c) ok
+returns-in-Ok-clause-headline g c = λ ok. headline_of _ _ _ _ _ _ (returns-in-Ok-clause-ran g c) ok
 
 pub returns-in-Err-clause-answered : goal.returns-in-Err-clause-answered
 returns-in-Err-clause-answered g c =
     let source : Seen = seen_of g.S.Source.left g.S.Source.faults c.args.project.now c.render.new.source in
+    let store : SeenStore = seen_store g.C.ClipStore.clips g.C.ClipStore.faults c.args.clips.now c.render.new.clips in
     let sink : Seen = seen_of g.K.Sink.written g.K.Sink.faults c.args.out.now c.render.new.out in
     let notes : Seen = seen_of g.N.Sink.written g.N.Sink.faults c.args.notes.now c.note.new.notes in
-    answered_of _ c.note.result source sink notes (record { end = Err c.in-Err.ending; ended = c.in-Err.ensures; noted = c.note.ensures })
-
-pub returns-in-Err-clause-complete : goal.returns-in-Err-clause-complete
-returns-in-Err-clause-complete g c =
-    let source : Seen = seen_of g.S.Source.left g.S.Source.faults c.args.project.now c.render.new.source in
-    let sink : Seen = seen_of g.K.Sink.written g.K.Sink.faults c.args.out.now c.render.new.out in
-    let notes : Seen = seen_of g.N.Sink.written g.N.Sink.faults c.args.notes.now c.note.new.notes in
-    complete_of _ c.note.result source sink notes (record { end = Err c.in-Err.ending; ended = c.in-Err.ensures; noted = c.note.ensures })
+    answered_of _ c.note.result source store sink notes (record { end = Err c.in-Err.ending; ended = c.in-Err.ensures; noted = c.note.ensures })

@@ -3,7 +3,8 @@ use Rattle.std.specs.Prelude.{flat_map}
 use Rattle.std.specs.List.{range_with_len}
 use Rattle.std.specs.Io.KnownBytes.{Appends}
 use Rattle.frame_file.specs.Afr.{header_bytes}
-use Rattle.project_model.specs.Plain.{plain_of, plain_comp}
+use Rattle.project_model.specs.Plain.{plain_comp}
+use Rattle.scene_meaning.specs.Scene.{plain_scene}
 use Rattle.scene_meaning.specs.Output.{header_of, frame_bytes}
 use Rattle.host_run.proofs.span.write_root.Given as goal
 
@@ -11,10 +12,10 @@ use Rattle.host_run.proofs.span.write_root.Given as goal
 abbrev pub invariant-frames : goal.invariant-frames
 invariant-frames g l =
     let sink = g.K.Sink in
-    let project = plain_of l.project in
+    let scene = plain_scene l.scene in
     let comp = plain_comp l.comp in
     record {
       done : Appends (sink.written l.fn.out) (sink.written l.out)
-          (header_bytes (header_of project.depth comp l.from (l.end - l.from)) ++ flat_map (frame_bytes project comp) (range_with_len l.from (l.frame - l.from)));
+          (header_bytes (header_of scene.project.depth comp l.from (l.end - l.from)) ++ flat_map (frame_bytes scene comp) (range_with_len l.from (l.frame - l.from)));
       faults : sink.faults l.out ≡ sink.faults l.fn.out;
     }
