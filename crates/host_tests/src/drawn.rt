@@ -1,5 +1,6 @@
 //! Frames of a row of three pixels, worked by hand, through whole runs.
 
+use crate::runs::no_clips;
 use host_io::{NeverSink, NeverSource, Status};
 use host_run::run;
 use std::alloc::Global;
@@ -19,7 +20,15 @@ pub(crate) fn rendered(
     let mut project = NeverSource::new(text.as_bytes().to_vec(alloc)?, 1000);
     let mut out = NeverSink::new(alloc, 1000);
     let mut notes = NeverSink::new(alloc, 1000);
-    if run(alloc, &[], &mut project, &mut out, &mut notes) != Status::Ok {
+    if run(
+        alloc,
+        &[],
+        &mut project,
+        &mut no_clips(alloc),
+        &mut out,
+        &mut notes,
+    ) != Status::Ok
+    {
         return Err("a run that ends well")?;
     }
     Ok(out.bytes().get(29..).ok_or("a header")?.to_vec(alloc)?)

@@ -2,11 +2,15 @@
 #![tactic(auto)]
 
 #[cfg(test)]
+mod clips;
+#[cfg(test)]
 mod drawn;
 #[cfg(test)]
 mod files;
 #[cfg(test)]
 mod mixed;
+#[cfg(test)]
+mod nested;
 #[cfg(test)]
 mod outside;
 #[cfg(test)]

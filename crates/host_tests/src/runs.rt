@@ -1,9 +1,10 @@
 //! Runs over sources and sinks in memory.
 ghost use Rattle.std.specs.Prelude.{◌≡◌, ◌<◌};
 
-use host_io::{MemSink, MemSource, NeverSink, NeverSource, Source, Status};
+use host_io::{MemSink, MemSource, NeverClips, NeverSink, NeverSource, Source, Status};
 use host_run::{ArgumentsError, DEFAULT_WORKERS, WordsError, program, read_words, run};
 use std::alloc::{AllocError, Global};
+use std::collections::BTreeMap;
 use std::process::ExitCode;
 use std::test::Fail;
 
@@ -47,7 +48,7 @@ struct Ran {
 }
 
 /// The words of a text, in which each but the last ends with a bar.
-fn words_of(alloc: Global, text: &str) -> Result<Vec<String>, AllocError> {
+pub(crate) fn words_of(alloc: Global, text: &str) -> Result<Vec<String>, AllocError> {
     let mut words = Vec::new(alloc);
     if !text.is_empty() {
         for word in text.split('|') {
@@ -55,6 +56,11 @@ fn words_of(alloc: Global, text: &str) -> Result<Vec<String>, AllocError> {
         }
     }
     Ok(words)
+}
+
+/// A store without clips.
+pub(crate) fn no_clips(alloc: Global) -> NeverClips {
+    NeverClips::new(BTreeMap::new(alloc))
 }
 
 /// Runs over a source and a sink whose calls move at most a piece and fail at one call.
@@ -72,7 +78,14 @@ fn run_over(
     let mut project = MemSource::new(text.to_vec(alloc)?, piece, read_fails.to_vec(alloc)?);
     let mut out = MemSink::new(alloc, piece, write_fails.to_vec(alloc)?);
     let mut notes = MemSink::new(alloc, 7, Vec::new(alloc));
-    let status = run(alloc, &words, &mut project, &mut out, &mut notes);
+    let status = run(
+        alloc,
+        &words,
+        &mut project,
+        &mut no_clips(alloc),
+        &mut out,
+        &mut notes,
+    );
     Ok(Ran {
         status,
         out: out.bytes().to_vec(alloc)?,
@@ -226,7 +239,14 @@ fn refused_words_leave_the_source(rt: HostRuntime) -> Result<(), Fail> {
         let mut project = MemSource::new(TWO_PIXELS.to_vec(alloc)?, 64, Vec::new(alloc));
         let mut out = NeverSink::new(alloc, 64);
         let mut notes = NeverSink::new(alloc, 64);
-        let _ = run(alloc, &words, &mut project, &mut out, &mut notes);
+        let _ = run(
+            alloc,
+            &words,
+            &mut project,
+            &mut no_clips(alloc),
+            &mut out,
+            &mut notes,
+        );
         let mut into = [0; 8];
         assert_eq!(rt; project.read(&mut into)?, left);
         assert_eq!(rt; &into[..left], TWO_PIXELS.get(..left).unwrap_or(&[]));
@@ -234,17 +254,19 @@ fn refused_words_leave_the_source(rt: HostRuntime) -> Result<(), Fail> {
     Ok(())
 }
 
-/// Over a source and a sink that never fail, no fault is answered: it follows from what `run` says of faults.
+/// Over a source, a store and a sink that never fail, no fault is answered: it follows from what `run` says of faults.
 fn run_over_never(
     alloc: Global,
     project: &mut NeverSource,
+    clips: &mut NeverClips,
     out: &mut NeverSink,
     notes: &mut NeverSink,
 ) -> Status
     ensures read { result ≡ Status.ReadFault → ⊥ }
+    ensures clip { result ≡ Status.ClipFault → ⊥ }
     ensures write { result ≡ Status.WriteFault → ⊥ }
 {
-    run(alloc, &[], project, out, notes)
+    run(alloc, &[], project, clips, out, notes)
 }
 
 #[test]
@@ -257,7 +279,13 @@ fn a_longer_text_is_refused(rt: HostRuntime) -> Result<(), Fail> {
         let mut project = NeverSource::new(vec![in alloc; b' '; spaces]?, 1 << 30);
         let mut out = NeverSink::new(alloc, 64);
         let mut notes = NeverSink::new(alloc, 64);
-        let ended = run_over_never(alloc, &mut project, &mut out, &mut notes);
+        let ended = run_over_never(
+            alloc,
+            &mut project,
+            &mut no_clips(alloc),
+            &mut out,
+            &mut notes,
+        );
         assert_eq!(rt; ended, status, "{spaces}");
         assert_eq!(rt; out.bytes().len(), 0);
     }
@@ -321,7 +349,14 @@ fn each_write_of_a_note_may_fail(rt: HostRuntime) -> Result<(), Fail> {
         let mut project = NeverSource::new(TWO_PIXELS.to_vec(alloc)?, 64);
         let mut out = NeverSink::new(alloc, 64);
         let mut notes = MemSink::new(alloc, 1, vec![in alloc; call]?);
-        let ended = run(alloc, &words, &mut project, &mut out, &mut notes);
+        let ended = run(
+            alloc,
+            &words,
+            &mut project,
+            &mut no_clips(alloc),
+            &mut out,
+            &mut notes,
+        );
         assert_eq!(rt; ended, Status::Span, "write {call}");
         assert_eq!(rt;
             notes.bytes(),
@@ -361,7 +396,14 @@ fn the_program_ends_with_the_status(rt: HostRuntime) -> Result<(), Fail> {
         let mut project = NeverSource::new(TWO_PIXELS.to_vec(alloc)?, 64);
         let mut out = NeverSink::new(alloc, 64);
         let mut notes = NeverSink::new(alloc, 64);
-        let ended = program(alloc, arguments, &mut project, &mut out, &mut notes);
+        let ended = program(
+            alloc,
+            arguments,
+            &mut project,
+            &mut no_clips(alloc),
+            &mut out,
+            &mut notes,
+        );
         assert!(rt; ended == ExitCode::from(code), "{line}");
         assert_eq!(rt; out.bytes().len(), written, "{line}");
         assert_eq!(rt; notes.bytes(), line.as_bytes());
