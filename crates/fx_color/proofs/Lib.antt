@@ -1,0 +1,2 @@
+pub mod RowsDrawn
+pub mod Parts
