@@ -1,6 +1,9 @@
-"""The picture of the modes: that the script writes the example, the program the picture, and that each mode can be told."""
+"""The pictures of examples: that scripts write what examples need, the program the pictures, and that each mode can be told."""
 
 import itertools
+import json
+import struct
+from pathlib import Path
 
 from common import AFR, TOP, Case, host, pixels_of_png
 
@@ -39,3 +42,57 @@ class Modes(Case):
 
     def test_the_picture_is_small(self):
         self.assertLess(PICTURE.stat().st_size, 100_000)
+
+
+class Lanterns(Case):
+    def test_the_script_makes_the_clips_that_the_project_declares(self):
+        self.well(TOP / "examples" / "lanterns.py")
+        for clip in json.loads((TOP / "examples" / "lanterns.json").read_bytes())["clips"]:
+            data = Path("clips", clip["name"]).read_bytes()
+            want = struct.pack(">IIBIIII", clip["width"], clip["height"], clip["depth"], *clip["frame"], 0, clip["frames"])
+            self.assertEqual(data[:29], b"AFR1" + want)
+            self.assertEqual(len(data), 29 + clip["frames"] * clip["width"] * clip["height"] * clip["depth"] // 2)
+
+    def test_the_program_draws_them(self):
+        if not host():
+            self.skipTest("no program is built, and no release fits")
+        given = (TOP / "examples" / "lanterns.json").read_bytes()
+        done = self.refused(TOP / "afhost", given=given, status=4)
+        self.assertEqual(done.stderr.decode(), "afhost: clip sea.afr: missing\n")
+        self.well(TOP / "examples" / "lanterns.py")
+        data = self.well(TOP / "afhost", given=given)
+        self.assertEqual(len(data), 29 + 24 * 320 * 180 * 4)
+        # The sea is opaque everywhere, and the picture of the first lantern's middle is not the sea's.
+        self.assertEqual(set(data[29::4]), {255})
+        lit, dark = (data[29 + 4 * (60 * 320 + x) : 29 + 4 * (60 * 320 + x) + 4] for x in (96, 136))
+        self.assertGreater(lit[1], 200)
+        self.assertLess(dark[1], 80)
+
+
+class ClipFaults(Case):
+    """What a folder gives for clips, by the real program."""
+
+    def project(self, name="a.afr"):
+        clip = {"name": name, "width": 1, "height": 1, "depth": 8, "frame": [1, 24], "frames": 1}
+        comp = {"width": 1, "height": 1, "frame": [1, 24], "frames": 1, "layers": [{"source": {"clip": 0}}]}
+        return json.dumps({"version": 1, "depth": 8, "root": 0, "clips": [clip], "comps": [comp]}).encode()
+
+    def test_a_folder_is_a_fault_and_no_folder_is_missing(self):
+        if not host():
+            self.skipTest("no program is built, and no release fits")
+        done = self.refused(TOP / "afhost", given=self.project(), status=4)
+        self.assertEqual(done.stderr.decode(), "afhost: clip a.afr: missing\n")
+        Path("clips", "a.afr").mkdir(parents=True)
+        done = self.refused(TOP / "afhost", given=self.project(), status=8)
+        self.assertEqual(done.stderr.decode(), "afhost: clip a.afr: fault\n")
+        done = self.refused(TOP / "afhost", given=self.project("../a.afr"), status=3)
+        self.assertEqual(done.stderr.decode(), "afhost: project rule 17\n")
+
+    def test_a_clip_is_read(self):
+        if not host():
+            self.skipTest("no program is built, and no release fits")
+        Path("clips").mkdir()
+        header = b"AFR1" + struct.pack(">IIBIIII", 1, 1, 8, 1, 24, 7, 1)
+        Path("clips", "a.afr").write_bytes(header + bytes([128, 1, 2, 128]))
+        data = self.well(TOP / "afhost", given=self.project())
+        self.assertEqual(data[29:], bytes([128, 1, 2, 128]))

@@ -27,6 +27,8 @@ class Host(Case):
             with self.subTest(project.name):
                 value = json.loads(project.read_bytes())
                 comp = value["comps"][value["root"]]
+                if "clips" in value:
+                    self.well(TOP / "examples" / f"{project.stem}.py")
                 data = self.well(TOP / "afhost", given=project.read_bytes())
                 self.assertIn(f"{comp['width']} by {comp['height']}".encode(), self.well(AFR, "info", "-", given=data))
                 size = pixels_of_png(self.well(AFR, "png", "-", comp["frames"] - 1, given=data))[:3]
