@@ -15,7 +15,7 @@ use Rattle.transfer_mode.proofs.Bounds.{both_left, twice_le, channel_within, alp
 
 -- ---- what a mode makes of two colours
 
-abbrev IsBounded : (ℕ → ℕ → ℕ → ℕ → ℕ) → Type 0
+abbrev pub IsBounded : (ℕ → ℕ → ℕ → ℕ → ℕ) → Type 0
 IsBounded f = (sa da s d : ℕ) → s ≤ sa → d ≤ da → f sa da s d ≤ sa * da
 
 left_le : (sa da s : ℕ) → s ≤ sa → s * da ≤ sa * da
@@ -31,56 +31,56 @@ if_le false x y most hx hy = hy
 normal_le : IsBounded both.normal
 normal_le sa da s d hs hd = left_le sa da s hs
 
-multiply_le : IsBounded both.multiply
+pub multiply_le : IsBounded both.multiply
 multiply_le sa da s d hs hd = omega (arith, mul-le-mul_left s hd, left_le sa da s hs)
 
-screen_le : IsBounded both.screen
+pub screen_le : IsBounded both.screen
 screen_le sa da s d hs hd = omega (arith, both_left sa da s d hs hd)
 
-darken_le : IsBounded both.darken
+pub darken_le : IsBounded both.darken
 darken_le sa da s d hs hd = omega (arith, left_le sa da s hs)
 
-lighten_le : IsBounded both.lighten
+pub lighten_le : IsBounded both.lighten
 lighten_le sa da s d hs hd = omega (arith, left_le sa da s hs, right_le sa da d hd)
 
-difference_le : IsBounded both.difference
+pub difference_le : IsBounded both.difference
 difference_le sa da s d hs hd = omega (arith, left_le sa da s hs, right_le sa da d hd)
 
-exclusion_le : IsBounded both.exclusion
+pub exclusion_le : IsBounded both.exclusion
 exclusion_le sa da s d hs hd = omega (arith, both_left sa da s d hs hd)
 
-add_le : IsBounded both.add
+pub add_le : IsBounded both.add
 add_le sa da s d hs hd = omega arith
 
-subtract_le : IsBounded both.subtract
+pub subtract_le : IsBounded both.subtract
 subtract_le sa da s d hs hd = omega (arith, right_le sa da d hd)
 
-linear_burn_le : IsBounded both.linear_burn
+pub linear_burn_le : IsBounded both.linear_burn
 linear_burn_le sa da s d hs hd = omega (arith, left_le sa da s hs, right_le sa da d hd)
 
-hard_light_le : IsBounded both.hard_light
+pub hard_light_le : IsBounded both.hard_light
 hard_light_le sa da s d hs hd = by (nat_le (2 * s) sa) refl
   where
     by : (b : Bool) → nat_le (2 * s) sa ≡ b → (if b then 2 * s * d else sa * da - 2 * (sa - s) * (da - d)) ≤ sa * da
     by true e = omega (arith, mul-le-mul_left {m = 2 * s} {n = sa} d (leb-true (2 * s) sa e), right_le sa da d hd)
     by false e = omega arith
 
-overlay_le : IsBounded both.overlay
+pub overlay_le : IsBounded both.overlay
 overlay_le sa da s d hs hd = by (nat_le (2 * d) da) refl
   where
     by : (b : Bool) → nat_le (2 * d) da ≡ b → (if b then 2 * s * d else sa * da - 2 * (sa - s) * (da - d)) ≤ sa * da
     by true e = omega (arith, twice_le s d sa da hs (leb-true (2 * d) da e))
     by false e = omega arith
 
-linear_light_le : IsBounded both.linear_light
+pub linear_light_le : IsBounded both.linear_light
 linear_light_le sa da s d hs hd = omega arith
 
-pin_light_le : IsBounded both.pin_light
+pub pin_light_le : IsBounded both.pin_light
 pin_light_le sa da s d hs hd =
     if_le (nat_le (2 * s) sa) (min (d * sa) (2 * s * da)) (max (d * sa) (2 * s * da - sa * da)) (sa * da) (omega (arith, right_le sa da d hd))
     (omega (arith, right_le sa da d hd, left_le sa da s hs))
 
-hard_mix_le : IsBounded both.hard_mix
+pub hard_mix_le : IsBounded both.hard_mix
 hard_mix_le sa da s d hs hd = if_le (nat_le (sa * da) (s * da + d * sa)) (sa * da) 0 (sa * da) (omega arith) (omega arith)
 
 color_dodge_le : IsBounded both.color_dodge

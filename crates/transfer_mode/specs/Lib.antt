@@ -2,3 +2,4 @@ pub mod Both
 pub mod Transfer
 pub mod Names
 pub mod Laws
+pub mod Lanes

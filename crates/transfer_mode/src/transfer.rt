@@ -4,11 +4,13 @@ ghost use Rattle.std.specs.Prelude.{◌-◌};
 ghost use lib.Lanes.{zip2};
 ghost use Rattle.argb_pixel.specs.Depth.{IsDepth};
 ghost use Rattle.argb_pixel.specs.Pixel.{Argb, mul_of, luma_of, rounded};
+ghost use Rattle.argb_pixel.specs.Packed.{pixels_of, IsPacked};
 ghost use Rattle.transfer_mode.specs.Both.{normal};
 ghost use Rattle.transfer_mode.specs.Transfer.{blended, mixed, blend_of};
 
 use crate::mix::*;
 use crate::mode::Mode;
+use crate::packed::{combine_bytes, combine_bytes_each, combine_packed, combine_packed_each};
 use argb_pixel::{Combine, Pixel, combine_each, combine_pixel, combine_row, share_of_most};
 use std::marker::PhantomData;
 
@@ -41,7 +43,7 @@ fn mix_channel<X: Mix, const MAX: u32>(sa: u32, da: u32, s: u32, d: u32) -> u32
 }
 
 /// A mode that mixes both.
-struct Mixed<X>(PhantomData<X>);
+pub(crate) struct Mixed<X>(PhantomData<X>);
 
 impl<X: Mix, const MAX: u32> Combine<MAX> for Mixed<X> {
     ghost combined = { mixed MAX X.both };
@@ -74,7 +76,7 @@ fn over_channel<const MAX: u32>(s: u32, d: u32, left: u32) -> u32
 }
 
 /// Normal mode, with one product a channel.
-struct Over;
+pub(crate) struct Over;
 
 impl<const MAX: u32> Combine<MAX> for Over {
     ghost combined = { mixed MAX normal };
@@ -92,6 +94,21 @@ impl<const MAX: u32> Combine<MAX> for Over {
             over_channel::<MAX>(s.g(), d.g(), left),
             over_channel::<MAX>(s.b(), d.b(), left),
         )
+    }
+}
+
+/// The source alone.
+pub(crate) struct Cover;
+
+impl<const MAX: u32> Combine<MAX> for Cover {
+    ghost combined = { λ s d. s };
+
+    #[inline(always)]
+    fn combine(s: Pixel<MAX>, _d: Pixel<MAX>) -> Pixel<MAX>
+        requires { IsDepth MAX }
+        ensures { result ≡ s.entry }
+    {
+        s
     }
 }
 
@@ -116,7 +133,7 @@ impl<const MAX: u32> Combine<MAX> for OneOver {
     }
 }
 
-struct StencilAlpha;
+pub(crate) struct StencilAlpha;
 
 impl<const MAX: u32> Combine<MAX> for StencilAlpha {
     ghost combined = { λ s d. mul_of MAX d s.a };
@@ -130,7 +147,7 @@ impl<const MAX: u32> Combine<MAX> for StencilAlpha {
     }
 }
 
-struct SilhouetteAlpha;
+pub(crate) struct SilhouetteAlpha;
 
 impl<const MAX: u32> Combine<MAX> for SilhouetteAlpha {
     ghost combined = { λ s d. mul_of MAX d (MAX - s.a) };
@@ -144,7 +161,7 @@ impl<const MAX: u32> Combine<MAX> for SilhouetteAlpha {
     }
 }
 
-struct StencilLuma;
+pub(crate) struct StencilLuma;
 
 impl<const MAX: u32> Combine<MAX> for StencilLuma {
     ghost combined = { λ s d. mul_of MAX d (luma_of s) };
@@ -158,7 +175,7 @@ impl<const MAX: u32> Combine<MAX> for StencilLuma {
     }
 }
 
-struct SilhouetteLuma;
+pub(crate) struct SilhouetteLuma;
 
 impl<const MAX: u32> Combine<MAX> for SilhouetteLuma {
     ghost combined = { λ s d. mul_of MAX d (MAX - luma_of s) };
@@ -172,11 +189,11 @@ impl<const MAX: u32> Combine<MAX> for SilhouetteLuma {
     }
 }
 
-// A call for each mode.
+// A call for each mode. Normal has its own, and the two modes that divide have another one.
 macro_rules! by_mode {
-    ($mode:expr, $each:ident, $normal:ident, $max:ident, ($($argument:expr),*)) => {
+    ($mode:expr, $normal:expr, $each:ident, $divided:ident, $max:ident, ($($argument:expr),*)) => {
         match $mode {
-            Mode::Normal => $each::<$normal, $max>($($argument),*),
+            Mode::Normal => $normal,
             Mode::Multiply => $each::<Mixed<Multiply>, $max>($($argument),*),
             Mode::Screen => $each::<Mixed<Screen>, $max>($($argument),*),
             Mode::Darken => $each::<Mixed<Darken>, $max>($($argument),*),
@@ -191,8 +208,8 @@ macro_rules! by_mode {
             Mode::LinearLight => $each::<Mixed<LinearLight>, $max>($($argument),*),
             Mode::PinLight => $each::<Mixed<PinLight>, $max>($($argument),*),
             Mode::HardMix => $each::<Mixed<HardMix>, $max>($($argument),*),
-            Mode::ColorDodge => $each::<Mixed<ColorDodge>, $max>($($argument),*),
-            Mode::ColorBurn => $each::<Mixed<ColorBurn>, $max>($($argument),*),
+            Mode::ColorDodge => $divided::<Mixed<ColorDodge>, $max>($($argument),*),
+            Mode::ColorBurn => $divided::<Mixed<ColorBurn>, $max>($($argument),*),
             Mode::StencilAlpha => $each::<StencilAlpha, $max>($($argument),*),
             Mode::SilhouetteAlpha => $each::<SilhouetteAlpha, $max>($($argument),*),
             Mode::StencilLuma => $each::<StencilLuma, $max>($($argument),*),
@@ -206,7 +223,14 @@ pub fn blend<const MAX: u32>(mode: Mode, s: Pixel<MAX>, d: Pixel<MAX>) -> Pixel<
     requires { IsDepth MAX }
     ensures { result ≡ blend_of MAX mode s.entry d.entry }
 {
-    by_mode!(mode, combine_pixel, Over, MAX, (s, d))
+    by_mode!(
+        mode,
+        combine_pixel::<Over, MAX>(s, d),
+        combine_pixel,
+        combine_pixel,
+        MAX,
+        (s, d)
+    )
 }
 
 /// Each pixel of the source row over its pixel of the destination row. The rows are equally long.
@@ -215,7 +239,14 @@ pub fn blend_row<const MAX: u32>(mode: Mode, s: &[Pixel<MAX>], d: &mut [Pixel<MA
     requires long { length s.now ≡ length d.old }
     ensures { d.new ≡ zip2 (blend_of MAX mode) s.now d.old }
 {
-    by_mode!(mode, combine_row, Over, MAX, (s, d))
+    by_mode!(
+        mode,
+        combine_row::<Over, MAX>(s, d),
+        combine_row,
+        combine_row,
+        MAX,
+        (s, d)
+    )
 }
 
 /// One pixel over each pixel of the destination row.
@@ -223,5 +254,66 @@ pub fn blend_colour<const MAX: u32>(mode: Mode, s: Pixel<MAX>, d: &mut [Pixel<MA
     requires { IsDepth MAX }
     ensures { d.new ≡ map (blend_of MAX mode s.entry) d.old }
 {
-    by_mode!(mode, combine_each, OneOver, MAX, (s, d))
+    by_mode!(
+        mode,
+        combine_each::<OneOver, MAX>(s, d),
+        combine_each,
+        combine_each,
+        MAX,
+        (s, d)
+    )
+}
+
+/// Each pixel of the packed source row over its pixel of the packed destination row. The rows are equally long, whole
+/// pixels, and all pixels are premultiplied.
+pub fn blend_packed<const MAX: u32>(mode: Mode, s: &[u8], d: &mut [u8])
+    requires depth { IsDepth MAX }
+    requires long { length s.now ≡ length d.old }
+    requires source { IsPacked MAX s.now }
+    requires destination { IsPacked MAX d.old }
+    ensures long { length d.new ≡ length d.old }
+    ensures packed { IsPacked MAX d.new }
+    ensures value { pixels_of MAX d.new ≡ zip2 (blend_of MAX mode) (pixels_of MAX s.now) (pixels_of MAX d.old) }
+{
+    by_mode!(
+        mode,
+        combine_packed::<Over, MAX>(s, d),
+        combine_packed,
+        combine_bytes,
+        MAX,
+        (s, d)
+    )
+}
+
+// One pixel over each pixel of a packed row, in Normal mode: an opaque one hides what is below.
+fn over_packed_each<const MAX: u32>(s: Pixel<MAX>, d: &mut [u8])
+    requires depth { IsDepth MAX }
+    requires destination { IsPacked MAX d.old }
+    ensures long { length d.new ≡ length d.old }
+    ensures packed { IsPacked MAX d.new }
+    ensures value { pixels_of MAX d.new ≡ map (mixed MAX normal s.entry) (pixels_of MAX d.old) }
+{
+    if s.a() == MAX {
+        combine_packed_each::<Cover, MAX>(s, d);
+    } else {
+        combine_packed_each::<Over, MAX>(s, d);
+    }
+}
+
+/// One pixel over each pixel of the packed destination row, which is whole pixels, all premultiplied.
+pub fn blend_packed_colour<const MAX: u32>(mode: Mode, s: Pixel<MAX>, d: &mut [u8])
+    requires depth { IsDepth MAX }
+    requires destination { IsPacked MAX d.old }
+    ensures long { length d.new ≡ length d.old }
+    ensures packed { IsPacked MAX d.new }
+    ensures value { pixels_of MAX d.new ≡ map (blend_of MAX mode s.entry) (pixels_of MAX d.old) }
+{
+    by_mode!(
+        mode,
+        over_packed_each(s, d),
+        combine_packed_each,
+        combine_bytes_each,
+        MAX,
+        (s, d)
+    )
 }

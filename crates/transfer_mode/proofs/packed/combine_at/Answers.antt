@@ -1,0 +1,7 @@
+use Rattle.std.proofs.Common.{◌+◌, arith}
+use Rattle.argb_pixel.proofs.Filled.{one_at}
+use Rattle.transfer_mode.proofs.packed.combine_at.Goals as goal
+
+pub unpack_pixel-requires : goal.unpack_pixel-requires
+unpack_pixel-requires g c =
+    (omega arith, (c.requires.depth, one_at g.row.MAX c.requires.depth c.args.d.now c.args.at (c.args.at + c.pixel_size.result) c.requires.within c.requires.packed (omega (arith, c.pixel_size.ensures))))
