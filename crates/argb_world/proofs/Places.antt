@@ -87,3 +87,7 @@ area_within inner outer within = by (is_empty inner) refl
             let none = none_between inner.top inner.bottom (omega (arith, ints, q)) in
             omega (arith, ap (λ n. count_between inner.left inner.right * n) none)
         sides false p false q r = cc
+
+-- a part with a point at some height has rows
+pub rows_there : (part : Rect) (y : ℤ) → HasRow part y → 0 < count_between part.top part.bottom
+rows_there part y h = let l = below part.top part.bottom y h.0 h.1 in omega (arith, l)

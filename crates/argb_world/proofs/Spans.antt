@@ -1,5 +1,5 @@
 -- A row of points: where its pixels stand, what it shows, and what a write of it changes.
-use Rattle.std.proofs.Common.{◌≡◌, ℕ, ◌+◌, ◌*◌, ◌-◌, ◌<◌, ◌≤◌, ℤ, pos, ◌-ℤ◌, ◌+ℤ◌, ◌≤ℤ◌, ◌<ℤ◌, Bool, true, false, List, length, get_or, take, drop, replicate, ◌≢◌, refl, ap, sym, ◌∙◌, arith, ◌⊎◌, inl, inr, ◌↔◌, length-append, length-take, length-drop, map}
+use Rattle.std.proofs.Common.{◌≡◌, ℕ, ◌+◌, ◌*◌, ◌-◌, ◌<◌, ◌≤◌, ℤ, pos, ◌-ℤ◌, ◌+ℤ◌, ◌≤ℤ◌, ◌<ℤ◌, Bool, true, false, List, length, get_or, take, drop, replicate, ◌≢◌, refl, ap, sym, subst, ◌∙◌, arith, ◌⊎◌, inl, inr, ◌↔◌, length-append, length-take, length-drop, map}
 use Rattle.std.specs.List.{between, range_with_len}
 use Rattle.std.proofs.lemmas.Int.{ints}
 use Rattle.std.proofs.lemmas.Bool.{cases_lt}
@@ -13,6 +13,7 @@ use Rattle.geom_rect.specs.declared.rect.Rect.{Rect}
 use Rattle.geom_rect.specs.Rect.{Has, has, positive_part, count_between, width_of, area_of}
 use Rattle.argb_pixel.specs.Pixel.{Argb, clear}
 use Rattle.argb_world.specs.Picture.{Picture, at, span_of, row_of, HasRow, HasSpan, place_of, SameExtentAndPart, StaysOffRow, StaysOffSpan}
+use Rattle.argb_world.specs.Kept.{IsInRow}
 use Rattle.argb_world.proofs.Places.{below, same_offset, positive_part_is}
 use Rattle.argb_world.proofs.Rows.{picture, at_inside, at_outside, at_beyond, at_same, column_above, column_below, column_is}
 
@@ -188,6 +189,15 @@ set_span_beside e part xs ys x y s h filled is u v other =
     let within = span_within part x y (length ys) h in
     written_beside xs ys s (length ys) (place_of part u v) (omega arith) refl (rw is (span_apart part x u y v (length ys) k h other))
 
+-- so many pixels
+pub span_write : (e part : Rect) (xs ys : List Argb) (x y : ℤ) (s n : ℕ) → length ys ≡ n → HasSpan part x y n → length xs ≡ area_of part → s ≡ place_of part x y
+    → (length (put_mid s n xs ys) ≡ area_of part) × (span_of (picture e part (put_mid s n xs ys)) x y n ≡ ys)
+    × StaysOffSpan x y n (picture e part xs) (picture e part (put_mid s n xs ys))
+span_write e part xs ys x y s n long h filled is =
+    subst (λ (m : ℕ). HasSpan part x y m → (length (put_mid s m xs ys) ≡ area_of part) × (span_of (picture e part (put_mid s m xs ys)) x y m ≡ ys)
+    × StaysOffSpan x y m (picture e part xs) (picture e part (put_mid s m xs ys))) long
+    (λ k. (filled_still part xs ys x y s k filled is, set_span_is e part xs ys x y s k filled is, set_span_beside e part xs ys x y s k filled is)) h
+
 -- ---- a write of a whole row
 
 pub row_filled_still : (part : Rect) (xs ys : List Argb) (y : ℤ) (s n : ℕ) → HasRow part y → length xs ≡ area_of part → s ≡ place_of part part.left y → length ys ≡ n → n ≡ width_of part
@@ -268,6 +278,29 @@ middle_within part x y count start end order fits inside =
     let first = (inside start (omega arith)).1 (omega arith, order) in
     let last = (inside (end - 1) (omega arith)).1 (omega arith, omega arith) in
     span_within part (x +ℤ pos start) y (end - start) ((first.2, first.3), first.0, omega (arith, ints, last.1, order))
+
+pub middle_span : (part : Rect) (x y : ℤ) (count start end : ℕ) → start < end → end ≤ count
+    → ((k : ℕ) → k < count → (Has part (x +ℤ pos k) y ↔ ((start ≤ k) × (k < end)))) → HasSpan part (x +ℤ pos start) y (end - start)
+middle_span part x y count start end order fits inside =
+    let first = (inside start (omega arith)).1 (omega arith, order) in
+    let last = (inside (end - 1) (omega arith)).1 (omega arith, omega arith) in
+    ((first.2, first.3), first.0, omega (arith, ints, last.1, order))
+
+-- ---- pixels of one row of those that are kept
+
+pub whole_in_row : (part : Rect) (y : ℤ) (width start n : ℕ) → ((v : ℤ) → HasRow part v → width ≡ width_of part) → HasRow part y → start ≡ place_of part part.left y → n ≡ width_of part
+    → IsInRow width start n
+whole_in_row part y width start n wide h is all =
+    let same = wide y h in
+    let begins = is ∙ start_is part y ∙ ap (λ w. positive_part (y -ℤ part.top) * w) (sym same) in
+    record { row = positive_part (y -ℤ part.top); above = omega (arith, begins); below = omega (arith, begins, all, same) }
+
+pub span_in_row : (part : Rect) (x y : ℤ) (width start n : ℕ) → ((v : ℤ) → HasRow part v → width ≡ width_of part) → HasSpan part x y n → start ≡ place_of part x y → IsInRow width start n
+span_in_row part x y width start n wide h is =
+    let same = wide y h.0 in
+    let columns = columns_within part x y n h in
+    let rows = ap (λ w. positive_part (y -ℤ part.top) * w) same in
+    record { row = positive_part (y -ℤ part.top); above = omega (arith, is, rows); below = omega (arith, is, rows, columns, same) }
 
 -- a row of points that is inside as a whole
 pub lent_is : (e part : Rect) (xs : List Argb) (x y : ℤ) (count start end from : ℕ) → length xs ≡ area_of part → start ≡ 0 → end ≡ count → start < end

@@ -3,7 +3,6 @@ use Rattle.std.specs.Prelude.{◌≡◌, ℕ, ◌+◌, ◌*◌, ◌≤◌, ℤ, 
 use Rattle.std.specs.List.{range_with_len}
 use Rattle.geom_rect.specs.Rect.{Has, IsWithin, has, positive_part, width_of, area_of}
 use Rattle.geom_rect.specs.declared.rect.Rect.{Rect}
-use Rattle.argb_pixel.specs.Depth.{IsDepth}
 use Rattle.argb_pixel.specs.Pixel.{Argb, clear}
 
 pub record Picture : Type 0 where
@@ -21,11 +20,6 @@ pub record IsPicture (p : Picture) : Type 0 where
   pub inside : IsWithin p.part p.extent
   pub bound : area_of p.part ≤ greatest_part
   pub filled : length p.pixels ≡ area_of p.part
-
--- a picture of this depth
-pub record IsPictureOf (most : ℕ) (p : Picture) : Type 0 where
-  pub depth : IsDepth most
-  pub picture : IsPicture p
 
 -- where a point's pixel stands
 abbrev pub place_of : Rect → ℤ → ℤ → ℕ

@@ -2,6 +2,7 @@
 #![tactic(auto)]
 
 pub mod laws;
+mod packed;
 mod pixels;
 mod world;
 

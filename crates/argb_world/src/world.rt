@@ -6,9 +6,12 @@ ghost use Rattle.geom_rect.specs.Rect.{Has, IsWithin, area_of, positive_part, co
 ghost use Rattle.argb_world.specs.Picture.{place_of, HasRow, HasSpan, IsReach, greatest_part};
 ghost use Rattle.argb_pixel.specs.Depth.{IsDepth};
 ghost use Rattle.argb_pixel.specs.Pixel.{clear};
+ghost use Rattle.argb_pixel.specs.Packed.{pixel_size, pixels_of, IsPacked};
+ghost use Rattle.argb_world.specs.Kept.{IsInRow};
 
-use crate::pixels::{Pixels, fill_row};
-use argb_pixel::{Pixel, Transparent};
+use crate::packed::fill_row;
+use crate::pixels::Pixels;
+use argb_pixel::{Pixel, Transparent, clear_packed, pixel_size};
 use geom_rect::Rect;
 use host_io::Memory;
 use std::alloc::Global;
@@ -25,13 +28,14 @@ pub struct World<const MAX: u32> {
 }
 
 impl<const MAX: u32> Model for World<MAX> {
-    ghost use Rattle.argb_world.specs.Picture.{Picture, IsPictureOf};
+    ghost use Rattle.argb_world.specs.Picture.{Picture};
+    ghost use Rattle.argb_world.specs.Kept.{IsWorldOf};
 
     ghost Value = { Picture };
 
-    ghost view = { λ w. record { extent = w.extent; part = w.part; pixels = w.pixels } };
+    ghost view = { λ w. record { extent = w.extent; part = w.part; pixels = w.pixels.pixels } };
 
-    ghost invariant = { λ w. IsPictureOf MAX record { extent = w.extent; part = w.part; pixels = w.pixels } };
+    ghost invariant = { λ w. IsWorldOf MAX record { extent = w.extent; part = w.part; pixels = w.pixels.pixels } w.pixels.width };
 }
 
 impl<const MAX: u32> World<MAX> {
@@ -55,7 +59,7 @@ impl<const MAX: u32> World<MAX> {
         ensures part { IfOk result (λ w. w.part ≡ part) }
         ensures transparent { IfOk result (λ w. (x y : ℤ) → at w x y ≡ clear) }
     {
-        let pixels = Pixels::new(alloc, part.area() as usize, Pixel::CLEAR)?;
+        let pixels = Pixels::new(alloc, width(&part), height(&part) as usize, Pixel::CLEAR)?;
         Ok(World {
             extent,
             part,
@@ -72,7 +76,7 @@ impl<const MAX: u32> World<MAX> {
         ensures part { IfOk result (λ w. w.part ≡ extent) }
         ensures colour { IfOk result (λ w. (x y : ℤ) → Has extent x y → at w x y ≡ colour.entry) }
     {
-        let pixels = Pixels::new(alloc, extent.area() as usize, colour)?;
+        let pixels = Pixels::new(alloc, width(&extent), height(&extent) as usize, colour)?;
         Ok(World {
             extent,
             part: extent,
@@ -190,19 +194,92 @@ impl<const MAX: u32> World<MAX> {
         }
     }
 
-    /// The pixels of a row of points, from `(x, y)` to the right, as they are kept: none where the points are not all in
-    /// the part, or the pixels are not written out. `x` is within -8,589,934,592..=8,589,934,592.
-    pub fn lend_span(&self, x: i64, y: i64, count: usize) -> Option<&[Pixel<MAX>]>
+    /// The bytes of the part's pixels at the height `y`, from the left: alpha, red, green and blue, one byte a channel where
+    /// `MAX` is 255 and two, the greater part first, where it is 32768.
+    pub fn packed_row(&self, y: i32) -> &[u8]
+        requires { HasRow self.now.part y }
+        ensures long { length result.now ≡ pixel_size MAX * width_of self.now.part }
+        ensures packed { IsPacked MAX result.now }
+        ensures pixels { pixels_of MAX result.now ≡ row_of self.now y }
+    {
+        let start = place(&self.part, self.part.left, y);
+        self.pixels.lend(start, width(&self.part))
+    }
+
+    /// Sets the part's pixels at the height `y` to those of the bytes, from the left. All other heights stay.
+    pub fn set_packed_row(&mut self, y: i32, bytes: &[u8])
+        requires height { HasRow self.old.part y }
+        requires width { length bytes.now ≡ pixel_size MAX * width_of self.old.part }
+        requires packed { IsPacked MAX bytes.now }
+        ensures frame { SameExtentAndPart self.old self.new }
+        ensures row { row_of self.new y ≡ pixels_of MAX bytes.now }
+        ensures others { StaysOffRow y self.old self.new }
+    {
+        let start = place(&self.part, self.part.left, y);
+        self.pixels.write_packed(start, width(&self.part), bytes);
+    }
+
+    /// The bytes of the pixels of a row of points, from `(x, y)` to the right, as they are kept: none where the points are not
+    /// all in the part, or there are none. `x` is within -8,589,934,592..=8,589,934,592.
+    pub fn packed_span(&self, x: i64, y: i64, count: usize) -> Option<&[u8]>
         requires { IsReach x }
-        ensures { IfSome result (λ row. row.now ≡ span_of self.now x y count) }
+        ensures long { IfSome result (λ row. length row.now ≡ pixel_size MAX * count) }
+        ensures packed { IfSome result (λ row. IsPacked MAX row.now) }
+        ensures pixels { IfSome result (λ row. pixels_of MAX row.now ≡ span_of self.now x y count) }
     {
         let (start, end) = self.covered(x, y, count);
         if start == 0 && end == count && start < end {
-            self.pixels
-                .lend(place_along(&self.part, x, y, start), count)
+            Some(
+                self.pixels
+                    .lend(place_along(&self.part, x, y, start), count),
+            )
         } else {
             None
         }
+    }
+
+    /// The bytes of the pixels of a row of points, from `(x, y)` to the right. They are transparent outside the part. `x` is
+    /// within -8,589,934,592..=8,589,934,592.
+    pub fn read_packed_span(&self, x: i64, y: i64, count: usize, into: &mut [u8])
+        requires reach { IsReach x }
+        requires long { length into.old ≡ pixel_size MAX * count }
+        ensures packed { IsPacked MAX into.new }
+        ensures pixels { pixels_of MAX into.new ≡ span_of self.now x y count }
+    {
+        match self.packed_span(x, y, count) {
+            Some(row) => into.copy_from_slice(row),
+            None => self.read_packed_part(x, y, count, into),
+        }
+    }
+
+    // The same where some of the points are not in the part.
+    fn read_packed_part(&self, x: i64, y: i64, count: usize, into: &mut [u8])
+        requires reach { IsReach x }
+        requires long { length into.old ≡ pixel_size MAX * count }
+        ensures packed { IsPacked MAX into.new }
+        ensures pixels { pixels_of MAX into.new ≡ span_of self.now x y count }
+    {
+        let part = self.part;
+        let (start, end) = self.covered(x, y, count);
+        clear_packed::<MAX>(count, into);
+        if start < end {
+            let from = place_along(&part, x, y, start);
+            read_packed_middle(&self.pixels, from, into, start, end - start);
+        }
+    }
+
+    /// Sets the pixels of a row of so many points, from `(x, y)` to the right, to those of the bytes. All are in the part, and
+    /// all other points stay.
+    pub fn set_packed_span(&mut self, x: i32, y: i32, count: usize, from: &[u8])
+        requires there { HasSpan self.old.part x y count }
+        requires long { length from.now ≡ pixel_size MAX * count }
+        requires packed { IsPacked MAX from.now }
+        ensures frame { SameExtentAndPart self.old self.new }
+        ensures span { span_of self.new x y count ≡ pixels_of MAX from.now }
+        ensures others { StaysOffSpan x y count self.old self.new }
+    {
+        let start = place(&self.part, x, y);
+        self.pixels.write_packed(start, count, from);
     }
 
     /// Sets the pixels of a row of points, from `(x, y)` to the right. All are in the part, and all other points stay.
@@ -363,7 +440,7 @@ fn place(part: &Rect, x: i32, y: i32) -> usize
     offset(part.top, y) * width(part) + offset(part.left, x)
 }
 
-// Copies pixels from a place on into the middle of a row.
+// Copies pixels of a row, from a place on, into the middle of another.
 fn read_middle<const MAX: u32>(
     pixels: &Pixels<MAX>,
     from: usize,
@@ -373,8 +450,30 @@ fn read_middle<const MAX: u32>(
 )
     requires order { start ≤ end }
     requires within { end ≤ length into.old }
-    requires there { from + (end - start) ≤ length pixels.now }
-    ensures { into.new ≡ put_mid start (end - start) into.old (between from (from + (end - start)) pixels.now) }
+    requires row { IsInRow pixels.now.width from (end - start) }
+    requires there { from + (end - start) ≤ length pixels.now.pixels }
+    ensures { into.new ≡ put_mid start (end - start) into.old (between from (from + (end - start)) pixels.now.pixels) }
 {
     pixels.read(from, &mut into[start..end]);
+}
+
+// Copies the bytes of so many pixels of a row, from a place on, into those of another, from the pixel `start` on.
+fn read_packed_middle<const MAX: u32>(
+    pixels: &Pixels<MAX>,
+    from: usize,
+    into: &mut [u8],
+    start: usize,
+    count: usize,
+)
+    requires depth { IsDepth MAX }
+    requires within { pixel_size MAX * (start + count) ≤ length into.old }
+    requires row { IsInRow pixels.now.width from count }
+    requires there { from + count ≤ length pixels.now.pixels }
+    requires packed { IsPacked MAX into.old }
+    ensures packed { IsPacked MAX into.new }
+    ensures pixels { pixels_of MAX into.new
+        ≡ put_mid start count (pixels_of MAX into.old) (between from (from + count) pixels.now.pixels) }
+{
+    let size = pixel_size::<MAX>();
+    pixels.read_packed(from, count, &mut into[size * start..size * (start + count)]);
 }

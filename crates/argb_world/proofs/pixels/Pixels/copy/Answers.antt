@@ -1,22 +1,59 @@
-use Rattle.std.proofs.Common.{rules, ◌≡◌, length, vec_len, ap, ◌∙◌, arith, w64}
+use Rattle.std.proofs.Common.{w64, rules, ◌≡◌, ℕ, ◌+◌, ◌-◌, ◌≤◌, ◌<◌, ◌*◌, ◌^◌, ◌∷◌, [], List, length, get_or, replicate, vec_len, vec_capacity, refl, ap, sym, subst, ◌∙◌, arith}
+use Rattle.std.specs.List.{between}
+use borrow.Rule.Slice.PartMut.{put_mid}
+use Rattle.argb_pixel.specs.Pixel.{Argb, clear}
 use Rattle.std.specs.Int.RustNames.{FitsSigned}
 use Rattle.std.proofs.lemmas.Int.{to_z-of_z}
-use borrow.Rule.Slice.PartMut.{put_mid}
 use Rattle.argb_world.specs.Picture.{span_of}
-use Rattle.argb_world.proofs.KeptLemmas.{stored}
-use Rattle.argb_world.proofs.Spans.{length_span}
+use Rattle.argb_pixel.specs.Packed.{pixel_size, pixels_of, IsPacked}
+use Rattle.argb_world.specs.Kept.{Rows, kept, IsKept}
+use Rattle.argb_world.proofs.KeptLemmas.{seen_length, stored_kept, stored}
 use Rattle.argb_world.proofs.pixels.Pixels.copy.Goals as goal
 
-pub returns : goal.returns
-returns g c =
+pub overflow_add-start : goal.overflow_add-start
+overflow_add-start g c =
+    let p = c.self.inside in
+    let k = c.self.invariant in
+    let many = seen_length g.row.MAX p.written.items p.ground.row.items (vec_capacity p.written) p.ground.count p.ground.width p.ground.colour c.args.self.now k c.self.view_is in
+    let fits : p.ground.count < 2 ^ 64 = search rules in
+    omega (arith, fits, many, c.requires.there)
+
+pub write_out-requires : goal.write_out-requires
+write_out-requires g c =
+    let p = c.self.inside in
+    let k = c.self.invariant in
+    let many = seen_length g.row.MAX p.written.items p.ground.row.items (vec_capacity p.written) p.ground.count p.ground.width p.ground.colour c.args.self.now k c.self.view_is in
+    (omega arith, (k, omega (arith, many, c.requires.there)))
+
+pub invariant_of-self : goal.invariant_of-self
+invariant_of-self g c =
+    let p = c.self.inside in
+    let v = c.write_out.new.written in
+    let k = c.write_out.ensures.kept in
+    let long : vec_len v ≡ length v.items = search rules in
     let x_fits : FitsSigned w64 c.args.x = c.ranges.x in
     let y_fits : FitsSigned w64 c.args.y = c.ranges.y in
-    let v = c.write_out.new.written in
     let ys = span_of c.args.from.now c.args.x c.args.y c.args.count in
-    let was : v.items ≡ c.args.self.now = c.write_out.ensures.pixels ∙ c.self.view_is in
+    let items = c.deref_mut.ensures.value in
+    let new = c.copy_over.new.bytes in
+    let same : length new ≡ length v.items = c.copy_over.ensures.long ∙ ap length items in
+    let made : pixels_of g.row.MAX new ≡ put_mid c.args.start c.args.count (pixels_of g.row.MAX v.items) ys = (simp to_z-of_z at c.copy_over.ensures.pixels) ∙ ap (λ l. put_mid c.args.start c.args.count (pixels_of g.row.MAX l) ys) items in
+    let is : IsPacked g.row.MAX new = c.copy_over.ensures.packed in
+    stored_kept g.row.MAX v new p.ground.row.items p.ground.count p.ground.width p.ground.colour long k same is
+
+pub returns-clause-pixels : goal.returns-clause-pixels
+returns-clause-pixels g c =
+    let p = c.self.inside in
+    let v = c.write_out.new.written in
+    let k = c.write_out.ensures.kept in
     let long : vec_len v ≡ length v.items = search rules in
-    let raw = simp to_z-of_z at c.copy_over.ensures in
-    let made : c.copy_over.new.pixels ≡ put_mid c.args.start c.args.count v.items ys = raw ∙ ap (λ l. put_mid c.args.start c.args.count l ys) c.deref_mut.ensures.value in
-    stored v c.copy_over.new.pixels ys c.args.start c.args.count c.self.inside.count c.self.inside.colour long c.write_out.ensures.len (omega (arith, c.requires.there, ap length was))
-    (length_span c.args.from.now c.args.x c.args.y c.args.count) made
-    ∙ ap (λ l. put_mid c.args.start c.args.count l ys) was
+    let x_fits : FitsSigned w64 c.args.x = c.ranges.x in
+    let y_fits : FitsSigned w64 c.args.y = c.ranges.y in
+    let ys = span_of c.args.from.now c.args.x c.args.y c.args.count in
+    let items = c.deref_mut.ensures.value in
+    let new = c.copy_over.new.bytes in
+    let same : length new ≡ length v.items = c.copy_over.ensures.long ∙ ap length items in
+    let made : pixels_of g.row.MAX new ≡ put_mid c.args.start c.args.count (pixels_of g.row.MAX v.items) ys = (simp to_z-of_z at c.copy_over.ensures.pixels) ∙ ap (λ l. put_mid c.args.start c.args.count (pixels_of g.row.MAX l) ys) items in
+    let is : IsPacked g.row.MAX new = c.copy_over.ensures.packed in
+    let was = c.write_out.ensures.same ∙ ap (λ (r : Rows). r.pixels) c.self.view_is in
+    stored g.row.MAX v new p.ground.row.items p.ground.count p.ground.width c.args.start c.args.count p.ground.colour ys c.args.self.now.pixels long k same is c.write_out.ensures.enough made was

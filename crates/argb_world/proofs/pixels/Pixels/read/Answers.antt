@@ -1,11 +1,14 @@
-use Rattle.std.proofs.Common.{rules, ◌≡◌, ◌+◌, length, ap, sym, ◌∙◌, arith}
+use Rattle.std.proofs.Common.{rules, ◌≡◌, ℕ, ◌+◌, ◌-◌, ◌≤◌, ◌<◌, ◌*◌, ◌^◌, ◌∷◌, [], List, length, get_or, replicate, vec_len, vec_capacity, refl, ap, sym, subst, ◌∙◌, arith}
 use Rattle.std.specs.List.{between}
-use Rattle.argb_world.proofs.KeptLemmas.{kept_none, between_alike}
+use borrow.Rule.Slice.PartMut.{put_mid}
+use Rattle.argb_pixel.specs.Pixel.{Argb, clear}
+use Rattle.argb_pixel.specs.Packed.{pixel_size, pixels_of, IsPacked}
+use Rattle.argb_world.specs.Kept.{Rows, kept, IsKept}
+use Rattle.std.proofs.lemmas.List.Edits.{length-between}
 use Rattle.argb_world.proofs.pixels.Pixels.read.Goals as goal
 
-pub returns-then-is_empty : goal.returns-then-is_empty
-returns-then-is_empty g c =
-    let p = c.self.inside in
-    let empty : length p.written.items ≡ 0 = search rules in
-    let none = kept_none p.written.items p.count p.colour empty in
-    c.fill_row.ensures ∙ between_alike c.args.self.now p.count p.colour c.args.start (length c.args.into.now) (sym c.self.view_is ∙ none) c.requires
+pub unpack_row-requires : goal.unpack_row-requires
+unpack_row-requires g c =
+    let n = length c.args.into.now in
+    let parts : length (between c.args.start (c.args.start + n) c.args.self.now.pixels) ≡ n = (let e = length-between c.args.self.now.pixels c.args.start (c.args.start + n) c.requires.there in omega arith) in
+    (omega arith, (c.lend.ensures.depth, (c.lend.ensures.packed, c.lend.ensures.packed.whole ∙ ap (λ m. pixel_size g.row.MAX * m) (ap length c.lend.ensures.pixels ∙ parts))))

@@ -21,8 +21,8 @@ returns-then-has g c =
     let has = simp to_z-of_z at c.has.ensures in
     let is = simp to_z-of_z at c.place.ensures in
     rw (← c.self.view_is) (
-    c.get.ensures ∙ ap (λ j. get_or c.self.inside.pixels j clear) is
-    ∙ sym (at_inside c.self.inside.extent c.self.inside.part c.self.inside.pixels c.args.x c.args.y (has.0 c.if-has.true))
+    c.get.ensures ∙ ap (λ j. get_or c.self.inside.pixels.pixels j clear) is
+    ∙ sym (at_inside c.self.inside.extent c.self.inside.part c.self.inside.pixels.pixels c.args.x c.args.y (has.0 c.if-has.true))
     )
 
 pub returns-else-has : goal.returns-else-has
@@ -30,4 +30,4 @@ returns-else-has g c =
     let x_fits : FitsSigned w32 c.args.x = c.ranges.x in
     let y_fits : FitsSigned w32 c.args.y = c.ranges.y in
     let has = simp to_z-of_z at c.has.ensures in
-    rw (← c.self.view_is) (c.CLEAR.ensures ∙ sym (at_outside c.self.inside.extent c.self.inside.part c.self.inside.pixels c.args.x c.args.y (has-false c.has.result _ _ _ has.1 c.if-has.false)))
+    rw (← c.self.view_is) (c.CLEAR.ensures ∙ sym (at_outside c.self.inside.extent c.self.inside.part c.self.inside.pixels.pixels c.args.x c.args.y (has-false c.has.result _ _ _ has.1 c.if-has.false)))

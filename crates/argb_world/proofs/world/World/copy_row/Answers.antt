@@ -30,16 +30,17 @@ invariant_of-self g c =
     let height : HasRow c.self.inside.part y = row_there c.self.inside.part c.args.k below in
     let is : c.row_start-start.result ≡ place_of c.self.inside.part c.self.inside.part.left y = c.row_start-start.ensures ∙ sym (row_starts c.self.inside.part c.args.k) in
     let row_fits : FitsSigned w64 c.row_height-y.result = search rules in
-    let raw = simp to_z-of_z at c.copy.ensures in
-    let made = raw ∙ ap (λ z. put_mid c.row_start-start.result c.width-count.result c.self.inside.pixels (span_of c.args.from.now c.self.inside.part.left z c.width-count.result)) c.row_height-y.ensures in
+    let raw = simp to_z-of_z at c.copy.ensures.pixels in
+    let made = raw ∙ ap (λ z. put_mid c.row_start-start.result c.width-count.result c.self.inside.pixels.pixels (span_of c.args.from.now c.self.inside.part.left z c.width-count.result)) c.row_height-y.ensures in
     let long = length_span c.args.from.now c.self.inside.part.left y c.width-count.result in
     record {
       depth = c.self.invariant.depth;
       picture = record {
         inside = c.self.invariant.picture.inside;
         bound = c.self.invariant.picture.bound;
-        filled = ap length made ∙ row_filled_still c.self.inside.part c.self.inside.pixels (span_of c.args.from.now c.self.inside.part.left y c.width-count.result) y c.row_start-start.result c.width-count.result height c.self.invariant.picture.filled is long c.width-count.ensures;
+        filled = ap length made ∙ row_filled_still c.self.inside.part c.self.inside.pixels.pixels (span_of c.args.from.now c.self.inside.part.left y c.width-count.result) y c.row_start-start.result c.width-count.result height c.self.invariant.picture.filled is long c.width-count.ensures;
       };
+      wide = λ v h. c.copy.ensures.width ∙ c.self.invariant.wide v h;
     }
 
 pub returns-clause-row : goal.returns-clause-row
@@ -51,12 +52,12 @@ returns-clause-row g c =
     let height : HasRow c.self.inside.part y = row_there c.self.inside.part c.args.k below in
     let is : c.row_start-start.result ≡ place_of c.self.inside.part c.self.inside.part.left y = c.row_start-start.ensures ∙ sym (row_starts c.self.inside.part c.args.k) in
     let row_fits : FitsSigned w64 c.row_height-y.result = search rules in
-    let raw = simp to_z-of_z at c.copy.ensures in
-    let made = raw ∙ ap (λ z. put_mid c.row_start-start.result c.width-count.result c.self.inside.pixels (span_of c.args.from.now c.self.inside.part.left z c.width-count.result)) c.row_height-y.ensures in
+    let raw = simp to_z-of_z at c.copy.ensures.pixels in
+    let made = raw ∙ ap (λ z. put_mid c.row_start-start.result c.width-count.result c.self.inside.pixels.pixels (span_of c.args.from.now c.self.inside.part.left z c.width-count.result)) c.row_height-y.ensures in
     let long = length_span c.args.from.now c.self.inside.part.left y c.width-count.result in
     rw (← c.self.view_is) (
     ap (λ (l : List Argb). row_of (picture c.self.inside.extent c.self.inside.part l) y) made
-    ∙ set_row_is c.self.inside.extent c.self.inside.part c.self.inside.pixels (span_of c.args.from.now c.self.inside.part.left y c.width-count.result) y c.row_start-start.result c.width-count.result height c.self.invariant.picture.filled is long c.width-count.ensures
+    ∙ set_row_is c.self.inside.extent c.self.inside.part c.self.inside.pixels.pixels (span_of c.args.from.now c.self.inside.part.left y c.width-count.result) y c.row_start-start.result c.width-count.result height c.self.invariant.picture.filled is long c.width-count.ensures
     ∙ ap (span_of c.args.from.now c.self.inside.part.left y) c.width-count.ensures
     )
 
@@ -69,10 +70,10 @@ returns-clause-others g c =
     let height : HasRow c.self.inside.part y = row_there c.self.inside.part c.args.k below in
     let is : c.row_start-start.result ≡ place_of c.self.inside.part c.self.inside.part.left y = c.row_start-start.ensures ∙ sym (row_starts c.self.inside.part c.args.k) in
     let row_fits : FitsSigned w64 c.row_height-y.result = search rules in
-    let raw = simp to_z-of_z at c.copy.ensures in
-    let made = raw ∙ ap (λ z. put_mid c.row_start-start.result c.width-count.result c.self.inside.pixels (span_of c.args.from.now c.self.inside.part.left z c.width-count.result)) c.row_height-y.ensures in
+    let raw = simp to_z-of_z at c.copy.ensures.pixels in
+    let made = raw ∙ ap (λ z. put_mid c.row_start-start.result c.width-count.result c.self.inside.pixels.pixels (span_of c.args.from.now c.self.inside.part.left z c.width-count.result)) c.row_height-y.ensures in
     let long = length_span c.args.from.now c.self.inside.part.left y c.width-count.result in
     rw (← c.self.view_is) (
-    subst (λ (l : List Argb). StaysOffRow y (picture c.self.inside.extent c.self.inside.part c.self.inside.pixels) (picture c.self.inside.extent c.self.inside.part l)) (sym made)
-    (set_row_beside c.self.inside.extent c.self.inside.part c.self.inside.pixels (span_of c.args.from.now c.self.inside.part.left y c.width-count.result) y c.row_start-start.result c.width-count.result height c.self.invariant.picture.filled is long c.width-count.ensures)
+    subst (λ (l : List Argb). StaysOffRow y (picture c.self.inside.extent c.self.inside.part c.self.inside.pixels.pixels) (picture c.self.inside.extent c.self.inside.part l)) (sym made)
+    (set_row_beside c.self.inside.extent c.self.inside.part c.self.inside.pixels.pixels (span_of c.args.from.now c.self.inside.part.left y c.width-count.result) y c.row_start-start.result c.width-count.result height c.self.invariant.picture.filled is long c.width-count.ensures)
     )

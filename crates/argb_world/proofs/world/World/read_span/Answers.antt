@@ -5,7 +5,7 @@ use Rattle.std.proofs.lemmas.List.{length-replicate}
 use Rattle.geom_rect.specs.Rect.{Has}
 use Rattle.argb_pixel.specs.Pixel.{clear}
 use Rattle.argb_world.specs.Picture.{Picture}
-use Rattle.argb_world.proofs.Spans.{middle_within, span_parts, span_beyond}
+use Rattle.argb_world.proofs.Spans.{middle_within, middle_span, span_in_row, span_parts, span_beyond}
 use Rattle.argb_world.proofs.world.World.read_span.Goals as goal
 
 pub place_along-from-requires : goal.place_along-from-requires
@@ -32,7 +32,9 @@ read_middle-requires g c =
     let long : length c.fill_row.new.row ≡ length c.args.into.now = ap length clean ∙ length-replicate (length c.args.into.now) clear in
     let is = simp to_z-of_z at c.place_along-from.ensures in
     let within = middle_within c.self.inside.part c.args.x c.args.y (length c.args.into.now) c.covered-start.result.0 c.covered-start.result.1 c.if-start-end.true fits inside in
-    (omega arith, (omega arith, (c.covered-start.ensures.order, (omega (arith, long, fits), omega (arith, within, is, c.self.invariant.picture.filled)))))
+    let row = span_in_row c.self.inside.part (c.args.x +ℤ pos c.covered-start.result.0) c.args.y c.self.inside.pixels.width c.place_along-from.result (c.covered-start.result.1 - c.covered-start.result.0) c.self.invariant.wide
+    (middle_span c.self.inside.part c.args.x c.args.y (length c.args.into.now) c.covered-start.result.0 c.covered-start.result.1 c.if-start-end.true fits inside) is in
+    (omega arith, (omega arith, (c.covered-start.ensures.order, (omega (arith, long, fits), (row, omega (arith, within, is, c.self.invariant.picture.filled))))))
 
 pub returns-then-start-end : goal.returns-then-start-end
 returns-then-start-end g c =
@@ -46,7 +48,7 @@ returns-then-start-end g c =
     let is = simp to_z-of_z at c.place_along-from.ensures in
     let within = middle_within c.self.inside.part c.args.x c.args.y (length c.args.into.now) c.covered-start.result.0 c.covered-start.result.1 c.if-start-end.true fits inside in
     rw (← c.self.view_is) (
-    span_parts c.self.inside.extent c.self.inside.part c.self.inside.pixels c.args.x c.args.y (length c.args.into.now) c.covered-start.result.0 c.covered-start.result.1 c.place_along-from.result c.fill_row.new.row c.read_middle.new.into
+    span_parts c.self.inside.extent c.self.inside.part c.self.inside.pixels.pixels c.args.x c.args.y (length c.args.into.now) c.covered-start.result.0 c.covered-start.result.1 c.place_along-from.result c.fill_row.new.row c.read_middle.new.into
     c.self.invariant.picture.filled clean c.if-start-end.true fits inside is (omega (arith, within, is, c.self.invariant.picture.filled)) c.read_middle.ensures
     )
 
@@ -60,5 +62,5 @@ returns-else-start-end g c =
     let fits = c.covered-start.ensures.within in
     let clean : c.fill_row.new.row ≡ replicate (length c.args.into.now) clear = c.fill_row.ensures ∙ ap (replicate (length c.args.into.now)) c.CLEAR.ensures in
     rw (← c.self.view_is) (
-    span_beyond c.self.inside.extent c.self.inside.part c.self.inside.pixels c.args.x c.args.y (length c.args.into.now) c.covered-start.result.0 c.covered-start.result.1 c.fill_row.new.row clean c.if-start-end.false inside
+    span_beyond c.self.inside.extent c.self.inside.part c.self.inside.pixels.pixels c.args.x c.args.y (length c.args.into.now) c.covered-start.result.0 c.covered-start.result.1 c.fill_row.new.row clean c.if-start-end.false inside
     )

@@ -22,7 +22,7 @@ returns-clause-set g c =
     let y_fits : FitsSigned w32 c.args.y = c.ranges.y in
     let is = simp to_z-of_z at c.place-at.ensures in
     let inside : Has c.self.inside.part c.args.x c.args.y = subst (λ (v : Picture). Has v.part c.args.x c.args.y) (sym c.self.view_is) c.requires in
-    rw c.set.ensures (set_at_point c.self.inside.extent c.self.inside.part c.self.inside.pixels c.args.x c.args.y c.place-at.result c.args.p inside c.self.invariant.picture.filled is)
+    rw c.set.ensures.pixels (set_at_point c.self.inside.extent c.self.inside.part c.self.inside.pixels.pixels c.args.x c.args.y c.place-at.result c.args.p inside c.self.invariant.picture.filled is)
 
 pub returns-clause-others : goal.returns-clause-others
 returns-clause-others g c =
@@ -30,7 +30,7 @@ returns-clause-others g c =
     let y_fits : FitsSigned w32 c.args.y = c.ranges.y in
     let is = simp to_z-of_z at c.place-at.ensures in
     let inside : Has c.self.inside.part c.args.x c.args.y = subst (λ (v : Picture). Has v.part c.args.x c.args.y) (sym c.self.view_is) c.requires in
-    rw (← c.self.view_is, c.set.ensures) (set_beside c.self.inside.extent c.self.inside.part c.self.inside.pixels c.args.x c.args.y c.place-at.result c.args.p inside is)
+    rw (← c.self.view_is, c.set.ensures.pixels) (set_beside c.self.inside.extent c.self.inside.part c.self.inside.pixels.pixels c.args.x c.args.y c.place-at.result c.args.p inside is)
 
 pub invariant_of-self : goal.invariant_of-self
 invariant_of-self g c = record {
@@ -38,6 +38,7 @@ invariant_of-self g c = record {
   picture = record {
     inside = c.self.invariant.picture.inside;
     bound = c.self.invariant.picture.bound;
-    filled = ap length c.set.ensures ∙ length-set c.self.inside.pixels c.place-at.result c.args.p ∙ c.self.invariant.picture.filled;
+    filled = ap length c.set.ensures.pixels ∙ length-set c.self.inside.pixels.pixels c.place-at.result c.args.p ∙ c.self.invariant.picture.filled;
   };
+  wide = λ v h. c.set.ensures.width ∙ c.self.invariant.wide v h;
 }

@@ -29,8 +29,9 @@ invariant_of-self g c =
       picture = record {
         inside = c.self.invariant.picture.inside;
         bound = c.self.invariant.picture.bound;
-        filled = ap length c.write.ensures ∙ row_filled_still c.self.inside.part c.self.inside.pixels c.args.from.now c.args.y c.place-start.result (length c.args.from.now) height c.self.invariant.picture.filled is refl wide;
+        filled = ap length c.write.ensures.pixels ∙ row_filled_still c.self.inside.part c.self.inside.pixels.pixels c.args.from.now c.args.y c.place-start.result (length c.args.from.now) height c.self.invariant.picture.filled is refl wide;
       };
+      wide = λ v h. c.write.ensures.width ∙ c.self.invariant.wide v h;
     }
 
 pub returns-clause-row : goal.returns-clause-row
@@ -40,8 +41,8 @@ returns-clause-row g c =
     let is = simp to_z-of_z at c.place-start.ensures in
     let height : HasRow c.self.inside.part c.args.y = subst (λ (v : Picture). HasRow v.part c.args.y) (sym c.self.view_is) c.requires.height in
     let wide : length c.args.from.now ≡ width_of c.self.inside.part = subst (λ (v : Picture). length c.args.from.now ≡ width_of v.part) (sym c.self.view_is) c.requires.width in
-    ap (λ (l : List Argb). row_of (picture c.self.inside.extent c.self.inside.part l) c.args.y) c.write.ensures
-    ∙ set_row_is c.self.inside.extent c.self.inside.part c.self.inside.pixels c.args.from.now c.args.y c.place-start.result (length c.args.from.now) height c.self.invariant.picture.filled is refl wide
+    ap (λ (l : List Argb). row_of (picture c.self.inside.extent c.self.inside.part l) c.args.y) c.write.ensures.pixels
+    ∙ set_row_is c.self.inside.extent c.self.inside.part c.self.inside.pixels.pixels c.args.from.now c.args.y c.place-start.result (length c.args.from.now) height c.self.invariant.picture.filled is refl wide
 
 pub returns-clause-others : goal.returns-clause-others
 returns-clause-others g c =
@@ -51,6 +52,6 @@ returns-clause-others g c =
     let height : HasRow c.self.inside.part c.args.y = subst (λ (v : Picture). HasRow v.part c.args.y) (sym c.self.view_is) c.requires.height in
     let wide : length c.args.from.now ≡ width_of c.self.inside.part = subst (λ (v : Picture). length c.args.from.now ≡ width_of v.part) (sym c.self.view_is) c.requires.width in
     rw (← c.self.view_is) (
-    subst (λ (l : List Argb). StaysOffRow c.args.y (picture c.self.inside.extent c.self.inside.part c.self.inside.pixels) (picture c.self.inside.extent c.self.inside.part l)) (sym c.write.ensures)
-    (set_row_beside c.self.inside.extent c.self.inside.part c.self.inside.pixels c.args.from.now c.args.y c.place-start.result (length c.args.from.now) height c.self.invariant.picture.filled is refl wide)
+    subst (λ (l : List Argb). StaysOffRow c.args.y (picture c.self.inside.extent c.self.inside.part c.self.inside.pixels.pixels) (picture c.self.inside.extent c.self.inside.part l)) (sym c.write.ensures.pixels)
+    (set_row_beside c.self.inside.extent c.self.inside.part c.self.inside.pixels.pixels c.args.from.now c.args.y c.place-start.result (length c.args.from.now) height c.self.invariant.picture.filled is refl wide)
     )

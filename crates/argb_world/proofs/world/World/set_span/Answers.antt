@@ -26,8 +26,9 @@ invariant_of-self g c =
       picture = record {
         inside = c.self.invariant.picture.inside;
         bound = c.self.invariant.picture.bound;
-        filled = ap length c.write.ensures ∙ filled_still c.self.inside.part c.self.inside.pixels c.args.from.now c.args.x c.args.y c.place-start.result span c.self.invariant.picture.filled is;
+        filled = ap length c.write.ensures.pixels ∙ filled_still c.self.inside.part c.self.inside.pixels.pixels c.args.from.now c.args.x c.args.y c.place-start.result span c.self.invariant.picture.filled is;
       };
+      wide = λ v h. c.write.ensures.width ∙ c.self.invariant.wide v h;
     }
 
 pub returns-clause-span : goal.returns-clause-span
@@ -36,8 +37,8 @@ returns-clause-span g c =
     let y_fits : FitsSigned w32 c.args.y = c.ranges.y in
     let is = simp to_z-of_z at c.place-start.ensures in
     let span : HasSpan c.self.inside.part c.args.x c.args.y (length c.args.from.now) = subst (λ (v : Picture). HasSpan v.part c.args.x c.args.y (length c.args.from.now)) (sym c.self.view_is) c.requires in
-    ap (λ (l : List Argb). span_of (picture c.self.inside.extent c.self.inside.part l) c.args.x c.args.y (length c.args.from.now)) c.write.ensures
-    ∙ set_span_is c.self.inside.extent c.self.inside.part c.self.inside.pixels c.args.from.now c.args.x c.args.y c.place-start.result span c.self.invariant.picture.filled is
+    ap (λ (l : List Argb). span_of (picture c.self.inside.extent c.self.inside.part l) c.args.x c.args.y (length c.args.from.now)) c.write.ensures.pixels
+    ∙ set_span_is c.self.inside.extent c.self.inside.part c.self.inside.pixels.pixels c.args.from.now c.args.x c.args.y c.place-start.result span c.self.invariant.picture.filled is
 
 pub returns-clause-others : goal.returns-clause-others
 returns-clause-others g c =
@@ -46,6 +47,6 @@ returns-clause-others g c =
     let is = simp to_z-of_z at c.place-start.ensures in
     let span : HasSpan c.self.inside.part c.args.x c.args.y (length c.args.from.now) = subst (λ (v : Picture). HasSpan v.part c.args.x c.args.y (length c.args.from.now)) (sym c.self.view_is) c.requires in
     rw (← c.self.view_is) (
-    subst (λ (l : List Argb). StaysOffSpan c.args.x c.args.y (length c.args.from.now) (picture c.self.inside.extent c.self.inside.part c.self.inside.pixels) (picture c.self.inside.extent c.self.inside.part l)) (sym c.write.ensures)
-    (set_span_beside c.self.inside.extent c.self.inside.part c.self.inside.pixels c.args.from.now c.args.x c.args.y c.place-start.result span c.self.invariant.picture.filled is)
+    subst (λ (l : List Argb). StaysOffSpan c.args.x c.args.y (length c.args.from.now) (picture c.self.inside.extent c.self.inside.part c.self.inside.pixels.pixels) (picture c.self.inside.extent c.self.inside.part l)) (sym c.write.ensures.pixels)
+    (set_span_beside c.self.inside.extent c.self.inside.part c.self.inside.pixels.pixels c.args.from.now c.args.x c.args.y c.place-start.result span c.self.invariant.picture.filled is)
     )
