@@ -1,16 +1,18 @@
 //! What one layer brings to a row of points: its pixels, under its matte, under its opacity.
-ghost use Rattle.std.specs.Prelude.{◌≡◌, ℕ, ℤ, pos, ◌+ℤ◌, ◌-ℤ◌, ◌≤◌, ◌<◌, map, length, replicate, option_map, IfSome, ◌⊎◌};
+ghost use Rattle.std.specs.Prelude.{◌≡◌, ℕ, ℤ, pos, ◌+ℤ◌, ◌-ℤ◌, ◌*◌, ◌≤◌, ◌<◌, map, length, option_map, IfSome, ◌⊎◌};
 ghost use lib.Lanes.{zip2};
 ghost use Rattle.argb_pixel.specs.Depth.{IsDepth};
 ghost use Rattle.argb_pixel.specs.Pixel.{scale_of, clear};
+ghost use Rattle.argb_pixel.specs.Packed.{pixel_size, pixels_of, IsPacked};
 ghost use Rattle.track_matte.specs.Mattes.{matted};
 ghost use Rattle.comp_stack.specs.Layers.{IsPosition, IsShown, IsPlaced, placed_of, layer_of};
 ghost use Rattle.comp_stack.specs.Stack.{pixel_at, source_at};
 ghost use Rattle.comp_stack.specs.Spans.{IsNear, pixel_span, matte_span, source_span};
 
 use crate::layer::{Placed, Shown};
-use argb_pixel::{Pixel, Transparent};
-use track_matte::{Matte, apply_row};
+use argb_pixel::{Pixel, clear_packed};
+use track_matte::{Matte, apply_packed};
+use transfer_mode::scale_packed;
 
 // A column or row of the stack, as one of a picture at a position.
 fn within(z: i64, position: i32) -> i64
@@ -21,66 +23,62 @@ fn within(z: i64, position: i32) -> i64
     z - position as i64
 }
 
-/// The pixels of a picture at its position.
+/// The bytes of the pixels of a picture at its position.
 pub(crate) fn read_shown<const MAX: u32>(
     shown: &Shown<MAX>,
     x: i64,
     y: i64,
-    into: &mut [Pixel<MAX>],
+    count: usize,
+    into: &mut [u8],
 )
     requires shown { IsShown shown.now }
     requires column { IsNear x }
     requires row { IsNear y }
-    ensures { into.new ≡ pixel_span (placed_of shown.now) x y (length into.old) }
+    requires long { length into.old ≡ pixel_size MAX * count }
+    ensures packed { IsPacked MAX into.new }
+    ensures pixels { pixels_of MAX into.new ≡ pixel_span (placed_of shown.now) x y count }
 {
     shown
         .world
-        .read_span(within(x, shown.x), within(y, shown.y), into);
-}
-
-/// Each pixel under an opacity.
-fn scale_each<const MAX: u32>(opacity: u32, row: &mut [Pixel<MAX>])
-    requires depth { IsDepth MAX }
-    requires part { opacity ≤ 10000 }
-    ensures { row.new ≡ map (λ p. scale_of p opacity) row.old }
-{
-    for pixel in row.iter_mut() {
-        *pixel = pixel.scale(opacity);
-    }
+        .read_packed_span(within(x, shown.x), within(y, shown.y), count, into);
 }
 
 /// Each pixel under an opacity. Full opacity changes nothing.
-pub(crate) fn scale_row<const MAX: u32>(opacity: u32, row: &mut [Pixel<MAX>])
+pub(crate) fn scale_row<const MAX: u32>(opacity: u32, row: &mut [u8])
     requires depth { IsDepth MAX }
     requires part { opacity ≤ 10000 }
-    ensures { row.new ≡ map (λ p. scale_of p opacity) row.old }
+    requires packed { IsPacked MAX row.old }
+    ensures long { length row.new ≡ length row.old }
+    ensures packed { IsPacked MAX row.new }
+    ensures pixels { pixels_of MAX row.new ≡ map (λ p. scale_of p opacity) (pixels_of MAX row.old) }
 {
     if opacity < 10000 {
-        scale_each(opacity, row);
+        scale_packed::<MAX>(opacity, row);
     }
 }
 
-// Nothing at each pixel.
-fn clear_row<const MAX: u32>(row: &mut [Pixel<MAX>])
-    ensures { row.new ≡ replicate (length row.old) clear }
-{
-    row.fill(Pixel::CLEAR);
-}
-
-/// The pixels of a matte: at its own position, under its own opacity, and transparent where it is not seen.
-fn read_matte<const MAX: u32>(over: &Option<Shown<MAX>>, x: i64, y: i64, into: &mut [Pixel<MAX>])
+/// The bytes of the pixels of a matte: at its own position, under its own opacity, and transparent where it is not seen.
+fn read_matte<const MAX: u32>(
+    over: &Option<Shown<MAX>>,
+    x: i64,
+    y: i64,
+    count: usize,
+    into: &mut [u8],
+)
     requires depth { IsDepth MAX }
     requires over { IfSome over.now IsShown }
     requires column { IsNear x }
     requires row { IsNear y }
-    ensures { into.new ≡ matte_span (option_map placed_of over.now) x y (length into.old) }
+    requires long { length into.old ≡ pixel_size MAX * count }
+    ensures packed { IsPacked MAX into.new }
+    ensures pixels { pixels_of MAX into.new ≡ matte_span (option_map placed_of over.now) x y count }
 {
     match over {
         Some(shown) => {
-            read_shown(shown, x, y, into);
-            scale_row(shown.opacity, into);
+            read_shown(shown, x, y, count, into);
+            scale_row::<MAX>(shown.opacity, into);
         }
-        None => clear_row(into),
+        None => clear_packed::<MAX>(count, into),
     }
 }
 
@@ -89,65 +87,76 @@ fn mask_row<const MAX: u32>(
     layer: &Placed<MAX>,
     x: i64,
     y: i64,
-    matte: &mut [Pixel<MAX>],
-    source: &mut [Pixel<MAX>],
+    count: usize,
+    matte: &mut [u8],
+    source: &mut [u8],
 )
     requires depth { IsDepth MAX }
     requires layer { IsPlaced layer.now }
     requires column { IsNear x }
     requires row { IsNear y }
-    requires long { length matte.old ≡ length source.old }
-    ensures { source.new ≡ zip2 (matted MAX layer.now.matte)
-        (matte_span (option_map placed_of layer.now.over) x y (length source.old)) source.old }
+    requires long { length source.old ≡ pixel_size MAX * count }
+    requires matte { length matte.old ≡ pixel_size MAX * count }
+    requires packed { IsPacked MAX source.old }
+    ensures long { length source.new ≡ length source.old }
+    ensures packed { IsPacked MAX source.new }
+    ensures pixels { pixels_of MAX source.new ≡ zip2 (matted MAX layer.now.matte)
+        (matte_span (option_map placed_of layer.now.over) x y count) (pixels_of MAX source.old) }
 {
     match layer.matte {
         Matte::None => {}
         kind => {
-            read_matte(&layer.over, x, y, matte);
-            apply_row(kind, matte, source);
+            read_matte(&layer.over, x, y, count, matte);
+            apply_packed::<MAX>(kind, matte, source);
         }
     }
 }
 
-/// What a layer brings to a row of points. `matte` is room for as many pixels.
+/// The bytes of what a layer brings to a row of points. `matte` is room for as many pixels.
 pub(crate) fn read_source<const MAX: u32>(
     layer: &Placed<MAX>,
     x: i64,
     y: i64,
-    matte: &mut [Pixel<MAX>],
-    source: &mut [Pixel<MAX>],
+    count: usize,
+    matte: &mut [u8],
+    source: &mut [u8],
 )
     requires depth { IsDepth MAX }
     requires layer { IsPlaced layer.now }
     requires column { IsNear x }
     requires row { IsNear y }
-    requires long { length matte.old ≡ length source.old }
-    ensures { source.new ≡ source_span MAX (layer_of layer.now) x y (length source.old) }
+    requires long { length source.old ≡ pixel_size MAX * count }
+    requires matte { length matte.old ≡ pixel_size MAX * count }
+    ensures packed { IsPacked MAX source.new }
+    ensures pixels { pixels_of MAX source.new ≡ source_span MAX (layer_of layer.now) x y count }
 {
-    read_shown(&layer.layer, x, y, source);
-    mask_row(layer, x, y, matte, source);
-    scale_row(layer.layer.opacity, source);
+    read_shown(&layer.layer, x, y, count, source);
+    mask_row(layer, x, y, count, matte, source);
+    scale_row::<MAX>(layer.layer.opacity, source);
 }
 
-/// What a layer brings to a row of points, where that is what its picture keeps: it has no matte, and full opacity.
+/// The bytes of what a layer brings to a row of points, where that is what its picture keeps: it has no matte, and full
+/// opacity.
 pub(crate) fn whole_source<const MAX: u32>(
     layer: &Placed<MAX>,
     x: i64,
     y: i64,
     count: usize,
-) -> Option<&[Pixel<MAX>]>
+) -> Option<&[u8]>
     requires depth { IsDepth MAX }
     requires layer { IsPlaced layer.now }
     requires column { IsNear x }
     requires row { IsNear y }
-    ensures { IfSome result (λ row. row.now ≡ source_span MAX (layer_of layer.now) x y count) }
+    ensures long { IfSome result (λ row. length row.now ≡ pixel_size MAX * count) }
+    ensures packed { IfSome result (λ row. IsPacked MAX row.now) }
+    ensures pixels { IfSome result (λ row. pixels_of MAX row.now ≡ source_span MAX (layer_of layer.now) x y count) }
 {
     let shown = &layer.layer;
     match layer.matte {
         Matte::None if shown.opacity == 10000 => {
             shown
                 .world
-                .lend_span(within(x, shown.x), within(y, shown.y), count)
+                .packed_span(within(x, shown.x), within(y, shown.y), count)
         }
         _ => None,
     }

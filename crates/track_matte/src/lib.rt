@@ -4,4 +4,4 @@
 pub mod laws;
 mod matte;
 
-pub use matte::{Matte, apply_row, matte_of_name, matte_value};
+pub use matte::{Matte, apply_packed, apply_row, matte_of_name, matte_value};

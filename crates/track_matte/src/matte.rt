@@ -1,11 +1,13 @@
 ghost use Rattle.std.specs.Prelude.{◌≡◌, ◌≤◌, length};
 ghost use lib.Lanes.{zip2};
 ghost use Rattle.argb_pixel.specs.Depth.{IsDepth};
+ghost use Rattle.argb_pixel.specs.Packed.{pixels_of, IsPacked};
 ghost use Rattle.track_matte.specs.Mattes.{value_of, matted};
 ghost use Rattle.track_matte.specs.Names.{matte_named};
 ghost use Rattle.track_matte.specs.declared.matte.Matte.TheVariants.{Alpha, AlphaInverted, Luma, LumaInverted};
 
 use argb_pixel::{Combine, Pixel, combine_row};
+use transfer_mode::{Mode, blend_packed};
 
 /// What is taken from a layer's matte. The kinds are those of the After Effects C++ SDK Guide; what each lets
 /// through is this project's own.
@@ -64,6 +66,27 @@ pub fn apply_row<const MAX: u32>(kind: Matte, q: &[Pixel<MAX>], p: &mut [Pixel<M
         Matte::AlphaInverted => combine_row::<ByAlphaLeft, MAX>(q, p),
         Matte::Luma => combine_row::<ByLuma, MAX>(q, p),
         Matte::LumaInverted => combine_row::<ByLumaLeft, MAX>(q, p),
+    }
+}
+
+/// Each pixel of the layer's packed row `p` under its pixel of the matte's packed row `q`. The rows are equally long, and
+/// whole pixels, all premultiplied. The matte is blended over the layer, in the mode that keeps of it what the matte lets
+/// through.
+pub fn apply_packed<const MAX: u32>(kind: Matte, q: &[u8], p: &mut [u8])
+    requires depth { IsDepth MAX }
+    requires long { length q.now ≡ length p.old }
+    requires matte { IsPacked MAX q.now }
+    requires layer { IsPacked MAX p.old }
+    ensures long { length p.new ≡ length p.old }
+    ensures packed { IsPacked MAX p.new }
+    ensures value { pixels_of MAX p.new ≡ zip2 (matted MAX kind) (pixels_of MAX q.now) (pixels_of MAX p.old) }
+{
+    match kind {
+        Matte::None => {}
+        Matte::Alpha => blend_packed::<MAX>(Mode::StencilAlpha, q, p),
+        Matte::AlphaInverted => blend_packed::<MAX>(Mode::SilhouetteAlpha, q, p),
+        Matte::Luma => blend_packed::<MAX>(Mode::StencilLuma, q, p),
+        Matte::LumaInverted => blend_packed::<MAX>(Mode::SilhouetteLuma, q, p),
     }
 }
 

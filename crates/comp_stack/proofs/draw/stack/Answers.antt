@@ -23,7 +23,7 @@ stack_row-requires g c =
     let y_is : c.number_at-y.result ≡ c.args.ground.now.part.top +ℤ pos c.rows.k = placed ∙ ap (λ (r : Rect). r.top +ℤ pos c.rows.k) c.part-part.ensures.value in
     let part_is = c.rows.invariant.frame.1 in
     let there : HasRow c.rows.ground.part c.number_at-y.result = subst (λ (r : Rect). HasRow r c.number_at-y.result) (sym part_is) (row_there c.args.ground.now.part c.number_at-y.result c.rows.k y_is (omega (arith, height, c.rows-test.true))) in
-    (omega arith, (omega arith, (omega arith, (c.requires, (simp to_z-of_z there, (c.rows.invariant.into, (c.rows.invariant.source, c.rows.invariant.matte)))))))
+    (omega arith, (omega arith, (c.requires, (simp to_z-of_z there, (c.rows.invariant.into, (c.rows.invariant.source, c.rows.invariant.matte))))))
 
 pub rows-preserved : goal.rows-preserved
 rows-preserved g c =

@@ -9,7 +9,7 @@ abbrev pub invariant-rows : goal.invariant-rows
 invariant-rows g l = record {
   frame : SameExtentAndPart l.fn.ground l.ground;
   so_far : AreStackedTo g.row.MAX (map layer_of l.layers) l.fn.ground.part l.k l.fn.ground l.ground;
-  into : length l.into ≡ 256;
-  source : length l.source ≡ 256;
-  matte : length l.matte ≡ 256;
+  into : length l.into ≡ 2048;
+  source : length l.source ≡ 2048;
+  matte : length l.matte ≡ 2048;
 }

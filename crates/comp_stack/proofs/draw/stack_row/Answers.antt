@@ -34,7 +34,7 @@ stack_chunk-requires g c =
     chunk_there c.args.ground.now.part c.number_at-x.result c.args.y c.chunks.done c.min-many.result c.requires.there x_is (omega (arith, c.min-many.ensures, c.chunks-test.true)) (omega (arith, c.min-many.ensures, width, c.chunks-test.true)) in
     let whole : HasSpan c.chunks.ground.part c.number_at-x.result c.args.y c.min-many.result = subst (λ (r : Rect). HasSpan r c.number_at-x.result c.args.y c.min-many.result) (sym part_is) there in (
       omega arith,
-      (omega arith, (omega arith, (c.part-part.ensures.depth, (c.requires.layers, (simp to_z-of_z whole, (omega (arith, c.min-many.ensures), (c.chunks.auto.into ∙ c.requires.room, (c.chunks.auto.source ∙ c.requires.source, c.chunks.auto.matte ∙ c.requires.matte)))))))),
+      (omega arith, (c.part-part.ensures.depth, (c.requires.layers, (simp to_z-of_z whole, (omega (arith, c.min-many.ensures), (c.chunks.auto.into ∙ c.requires.room, (c.chunks.auto.source ∙ c.requires.source, c.chunks.auto.matte ∙ c.requires.matte))))))),
     )
 
 pub chunks-preserved : goal.chunks-preserved
