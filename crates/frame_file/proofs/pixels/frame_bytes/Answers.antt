@@ -17,19 +17,8 @@ push_row-requires g c =
     let top_is : c.part-part.result.top ≡ part.top = ap (λ (r : Rect). r.top) c.part-part.ensures.value in
     let bottom_is : c.part-part.result.bottom ≡ part.bottom = ap (λ (r : Rect). r.bottom) c.part-part.ensures.value in
     let is = simp to_z-of_z at c.row_at.ensures.value in
-    let under = simp to_z-of_z at c.row_at.ensures.above in (
-      omega arith,
-      (
-        omega arith,
-        (
-          c.part-part.ensures.depth,
-          (
-            (omega (arith, ints, same, is, top_is), omega (arith, ints, same, under, bottom_is)),
-            (c.deref_mut.ensures.len ∙ c.loop-k.invariant.row, c.deref_mut-in-loop-k.ensures.len ∙ c.loop-k.invariant.row_bytes),
-          ),
-        ),
-      ),
-    )
+    let under = simp to_z-of_z at c.row_at.ensures.above in
+    (omega arith, (c.part-part.ensures.depth, (omega (arith, ints, same, is, top_is), omega (arith, ints, same, under, bottom_is))))
 
 pub loop-k-preserved : goal.loop-k-preserved
 loop-k-preserved g c =
@@ -40,14 +29,9 @@ loop-k-preserved g c =
     let top_is : c.part-part.result.top ≡ world.part.top = ap (λ (r : Rect). r.top) c.part-part.ensures.value in
     let is = simp to_z-of_z at c.row_at.ensures.value in
     let pushed = simp to_z-of_z at c.in_ok-push_row.ensures in
-    record {
-      row = c.loop-k.invariant.row;
-      row_bytes = c.loop-k.invariant.row_bytes;
-      made =
-          pushed
-          ∙ ap (λ xs. xs ++ world_row_bytes g.row.MAX world c.row_at.result) c.loop-k.invariant.made
-          ∙ sym (rows_more (world_row_bytes g.row.MAX world) world.part.top c.row_at.result c.loop-k.k (is ∙ ap (λ t. t +ℤ pos c.loop-k.k) top_is));
-    }
+    pushed
+    ∙ ap (λ xs. xs ++ world_row_bytes g.row.MAX world c.row_at.result) c.loop-k.invariant
+    ∙ sym (rows_more (world_row_bytes g.row.MAX world) world.part.top c.row_at.result c.loop-k.k (is ∙ ap (λ t. t +ℤ pos c.loop-k.k) top_is))
 
 pub returns : goal.returns
 returns g c =
@@ -56,5 +40,5 @@ returns g c =
     let bottom_fits : FitsSigned w32 c.part-part.result.bottom = search rules in
     let count = simp to_z-of_z at c.count-k-end.ensures in
     let same : count_between c.part-part.result.top c.part-part.result.bottom ≡ count_between world.part.top world.part.bottom = ap (λ (r : Rect). count_between r.top r.bottom) c.part-part.ensures.value in
-    c.loop-k.invariant.made
+    c.loop-k.invariant
     ∙ ap (rows_to (world_row_bytes g.row.MAX world) world.part.top) (omega (arith, count, same, c.loop-k-test.false, c.loop-k.auto.k-end))
