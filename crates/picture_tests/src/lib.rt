@@ -6,6 +6,8 @@ mod mattes;
 #[cfg(test)]
 mod modes;
 #[cfg(test)]
+mod packed;
+#[cfg(test)]
 mod pixels;
 #[cfg(test)]
 mod rects;

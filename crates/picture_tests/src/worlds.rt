@@ -65,12 +65,55 @@ fn paints<const MAX: u32>(
     assert_eq!(rt; row, [none, none, none, none, q]);
     assert_eq!(rt; world.at(-2, -1), q);
     assert_eq!(rt; world.at(1, -1), p);
-    let Some(lent) = world.lend_span(-2, -1, 3) else {
-        return Err("a row is lent")?;
-    };
-    assert_eq!(rt; lent, [q, none, q].as_slice());
-    assert_eq!(rt; world.lend_span(-4, -1, 3).is_none(), true);
     Ok(())
+}
+
+// A row of five points, of which the first and the last are `p`, as its bytes.
+fn packs<const MAX: u32>(
+    rt: &impl Abort,
+    alloc: Global,
+    p: Pixel<MAX>,
+    bytes: &[u8],
+) -> Result<(), Fail>
+    requires { IsDepth MAX }
+{
+    let none = Pixel::CLEAR;
+    let mut world = World::<MAX>::blank(alloc, EXTENT, PART)?;
+    let mut copy = World::<MAX>::blank(alloc, EXTENT, PART)?;
+    world.set(-3, -1, p);
+    world.set(1, -1, p);
+    copy.set_packed_row(0, world.packed_row(-1));
+    assert_eq!(rt; world.packed_row(-1), bytes);
+    assert_eq!(rt; copy.packed_row(0), bytes);
+    assert_eq!(rt; copy.packed_row(-1), world.packed_row(-2));
+    for (x, y, want) in [(-3, 0, p), (-2, 0, none), (1, 0, p), (-3, -1, none)] {
+        assert_eq!(rt; copy.at(x, y), want, "at {x} {y}");
+    }
+    assert_eq!(rt; world.packed_span(-3, -1, 5), Some(bytes));
+    assert_eq!(rt; world.packed_span(-4, -1, 3), None);
+    Ok(())
+}
+
+#[test]
+fn packs_a_row_of_depth_8(rt: HostRuntime) -> Result<(), Fail> {
+    let bytes = [
+        255, 1, 2, 3, 0, 0, 0, 0, 0, 0, 0, 0, 0, 0, 0, 0, 255, 1, 2, 3,
+    ];
+    packs(&rt, rt.alloc(), Eight::of_channels(255, 1, 2, 3), &bytes)
+}
+
+#[test]
+fn packs_a_row_of_depth_16(rt: HostRuntime) -> Result<(), Fail> {
+    let bytes = [
+        128, 0, 64, 0, 0, 0, 0, 1, 0, 0, 0, 0, 0, 0, 0, 0, 0, 0, 0, 0, 0, 0, 0, 0, 0, 0, 0, 0, 0,
+        0, 0, 0, 128, 0, 64, 0, 0, 0, 0, 1,
+    ];
+    packs(
+        &rt,
+        rt.alloc(),
+        Sixteen::of_channels(32768, 16384, 0, 1),
+        &bytes,
+    )
 }
 
 #[test]
