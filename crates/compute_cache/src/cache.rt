@@ -1,11 +1,11 @@
-ghost use Rattle.std.specs.Prelude.{◌≡◌, ◌↔◌, ◌++◌, ◌∷◌, ◌+◌, ◌<◌, ◌≤◌, [], ℕ, List, true, false, length, IfOk, OnOk, OnErr, Some, None, Ok, Err};
+ghost use Rattle.std.specs.Prelude.{◌≡◌, ◌↔◌, ◌++◌, ◌∷◌, ◌+◌, ◌<◌, ◌≤◌, [], ℕ, List, true, false, length, take, IfOk, OnOk, OnErr, Some, None, Ok, Err};
 ghost use Rattle.cache_core.specs.declared.entry.Entry.{Entry};
 ghost use Rattle.cache_core.specs.declared.entry.Act.TheVariants.{Finish, Abandon, Give};
 ghost use Rattle.compute_cache.specs.declared.error.CacheError.TheVariants.{NotRegistered};
 ghost use Rattle.compute_cache.specs.declared.found.Call.TheVariants.{Begin, Checkout as ByCheckout};
 ghost use Rattle.std.specs.List.{AllByRecursion};
 ghost use Rattle.cache_core.specs.Core.{Core};
-ghost use Rattle.cache_core.specs.Rows.{is_idle};
+ghost use Rattle.cache_core.specs.Rows.{is_idle, AreDistinct};
 ghost use Rattle.cache_core.specs.Laws.{Leaves};
 ghost use Rattle.turn_lock.specs.Entries.{Begins, entries_of};
 ghost use Rattle.std.specs.Set.{distinct_count};
@@ -363,7 +363,7 @@ impl<K: Keeps> Cache<K> {
     }
 
     /// The history, once every other pass was joined. It is what the opening pass has seen, and leaves no row that is
-    /// computed or held.
+    /// computed or held. After each beginning of it a class and key have at most one row: one computation, or one value.
     pub fn close(self, pass: Pass<K>) -> Closed
         requires own { IsOf self pass }
         requires opening { pass.number ≡ 0 }
@@ -371,6 +371,7 @@ impl<K: Keeps> Cache<K> {
         requires last { pass.made ≡ pass.joined + 1 }
         ensures history { result ≡ pass.seen }
         ensures idle { (core : Core) × Leaves (budget_of self) result core × AllByRecursion (λ row. is_idle row.state ≡ true) core.rows }
+        ensures single { (n : ℕ) → (core : Core) × Leaves (budget_of self) (take n result) core × AreDistinct core.rows }
         ensures counted { AllByRecursion (λ entry. takes_out entry.act ≡ false) result → starts_of result ≡ distinct_count same_name (used_names result) }
     {
         let Cache { lock, classes: _ } = self;
