@@ -5,11 +5,15 @@
 mod at_once;
 #[cfg(test)]
 mod calls;
+pub mod histogram;
 pub mod jobs;
 #[cfg(test)]
 mod rows;
 pub mod seat;
 #[cfg(test)]
+mod shared_histogram;
+#[cfg(test)]
 mod stress;
 #[cfg(test)]
 mod values;
+pub mod workers;
