@@ -4,14 +4,14 @@ use Rattle.std.specs.Prelude.{Some, option_map, slice_get}
 use Rattle.std.specs.List.{All}
 use Rattle.std.proofs.lemmas.Option.{get_or_from_slice_get, slice_get-map, slice_get_within}
 use Rattle.project_model.specs.Bounds.{most_of}
-use Rattle.project_model.specs.Nesting.{source_rank, stack_rank}
+use Rattle.project_model.specs.Nesting.{source_rank, last_rank, stack_rank}
 use Rattle.project_model.specs.Plain.{plain_layer, plain_comp, plain_of}
 use Rattle.project_model.specs.Sound.{IsSoundItem, IsSoundLayer, IsSoundComp, IsSound}
 use Rattle.project_model.specs.declared.comp.Comp.{Comp}
 use Rattle.project_model.specs.declared.item.Item.TheVariants.{Comp as CompItem}
 use Rattle.project_model.specs.declared.layer.Layer.{Layer}
 use Rattle.project_model.specs.declared.project.Project.{Project}
-use Rattle.project_model.proofs.Ranked.{source_below, nested_below}
+use Rattle.project_model.proofs.Ranked.{last_below, source_below, nested_below}
 
 -- what holds of all holds of the one at an index
 pub each_at : {A : Type 0} (P : A → Type 0) (list : List A) (i : ℕ) (a : A) → All P list → slice_get list i ≡ Some a → P a
@@ -38,7 +38,12 @@ plain_at project i comp e = slice_get-map plain_comp project.comps i ∙ ap (opt
 pub plain_layer_at : (comp : Comp) (at : ℕ) (layer : Layer) → slice_get comp.layers at ≡ Some layer → slice_get (plain_comp comp).layers at ≡ Some (plain_layer layer)
 plain_layer_at comp at layer e = slice_get-map plain_layer comp.layers at ∙ ap (option_map plain_layer) e
 
--- the source of a layer is below its composition
+-- the last node of a layer is below its composition
+pub last_below_at : (project : Project) → IsSound project → (i : ℕ) (comp : Comp) (at : ℕ) (layer : Layer) → slice_get project.comps i ≡ Some comp → slice_get comp.layers at ≡ Some layer → last_rank (stack_rank (plain_of project)) (plain_comp comp).layers (plain_layer layer) < stack_rank (plain_of project) i
+last_below_at project sound i comp at layer there here =
+    last_below (plain_of project) i (plain_comp comp) at (plain_layer layer) sound.nesting (plain_at project i comp there) (plain_layer_at comp at layer here)
+
+-- so is its source
 pub source_below_at : (project : Project) → IsSound project → (i : ℕ) (comp : Comp) (at : ℕ) (layer : Layer) → slice_get project.comps i ≡ Some comp → slice_get comp.layers at ≡ Some layer → source_rank (stack_rank (plain_of project)) layer.source < stack_rank (plain_of project) i
 source_below_at project sound i comp at layer there here =
     source_below (plain_of project) i (plain_comp comp) at (plain_layer layer) sound.nesting (plain_at project i comp there) (plain_layer_at comp at layer here)

@@ -6,10 +6,11 @@ use Rattle.std.proofs.lemmas.List.{length-map}
 use Rattle.std.proofs.lemmas.List.Elements.{All-nil, All-cons, All-head, All-tail, All-append, All-map, All-push, All-same}
 use Rattle.rational_time.specs.declared.time.Time.{Time}
 use Rattle.param_stream.specs.declared.key.Keyframe.{Keyframe}
-use Rattle.project_model.specs.Bounds.{scale_of, is_bit_depth}
-use Rattle.project_model.specs.Form.{IsFormed, IsFormedComp, plain_layer_count}
+use Rattle.param_stream.specs.Curve.{Curve}
+use Rattle.project_model.specs.Bounds.{scale_of, is_bit_depth, most_keys}
+use Rattle.project_model.specs.Form.{IsKeyCount, IsFormed, IsFormedComp, plain_layer_count}
 use Rattle.project_model.specs.Plain.{plain_comp}
-use Rattle.project_model.specs.Times.{key_times, layer_times, comp_times}
+use Rattle.project_model.specs.Times.{key_times, fx_times, layer_times, comp_times}
 use Rattle.project_model.specs.declared.clip.ClipUse.{ClipUse}
 use Rattle.project_model.specs.declared.project.Project.{Project}
 use Rattle.project_model.specs.declared.plain.PlainLayer.{PlainLayer}
@@ -29,16 +30,29 @@ out_scaled : (out : Option Time) → 1 ≤ scale_of out → All IsScaled (option
 out_scaled None h = All-nil IsScaled
 out_scaled (Some time) h = All-cons IsScaled time [] h (All-nil IsScaled)
 
-keys_scaled : (keys : List Keyframe) → All (λ key. 1 ≤ key.time.scale) keys → All IsScaled (key_times keys)
+pub keys_scaled : (keys : List Keyframe) → All (λ key. 1 ≤ key.time.scale) keys → All IsScaled (key_times keys)
 keys_scaled keys all = All-map IsScaled (λ (key : Keyframe). key.time) keys all
 
-pub layer_scaled : (layer : PlainLayer) → 1 ≤ layer.start.scale → 1 ≤ layer.in_point.scale → 1 ≤ scale_of layer.out_point → All (λ key. 1 ≤ key.time.scale) layer.opacity → All (λ key. 1 ≤ key.time.scale) layer.x → All (λ key. 1 ≤ key.time.scale) layer.y → All (λ time. 1 ≤ time.scale) (layer_times layer)
-layer_scaled layer start in_point out o x y =
+pub layer_scaled : (layer : PlainLayer) → 1 ≤ layer.start.scale → 1 ≤ layer.in_point.scale → 1 ≤ scale_of layer.out_point → All (λ key. 1 ≤ key.time.scale) layer.opacity → All (λ key. 1 ≤ key.time.scale) layer.x → All (λ key. 1 ≤ key.time.scale) layer.y → All (λ fx. All (λ time. 1 ≤ time.scale) (fx_times fx)) layer.effects → All (λ time. 1 ≤ time.scale) (layer_times layer)
+layer_scaled layer start in_point out o x y effects =
     let points : List Time = layer.start ∷ layer.in_point ∷ option_to_list layer.out_point in
     let first = All-cons IsScaled layer.start (layer.in_point ∷ option_to_list layer.out_point) start (All-cons IsScaled layer.in_point (option_to_list layer.out_point) in_point (out_scaled layer.out_point out)) in
     let with_o = All-append IsScaled points (key_times layer.opacity) first (keys_scaled layer.opacity o) in
     let with_x = All-append IsScaled (points ++ key_times layer.opacity) (key_times layer.x) with_o (keys_scaled layer.x x) in
-    All-append IsScaled (points ++ key_times layer.opacity ++ key_times layer.x) (key_times layer.y) with_x (keys_scaled layer.y y)
+    let with_y = All-append IsScaled (points ++ key_times layer.opacity ++ key_times layer.x) (key_times layer.y) with_x (keys_scaled layer.y y) in
+    All-append IsScaled (points ++ key_times layer.opacity ++ key_times layer.x ++ key_times layer.y) (flat_map fx_times layer.effects) with_y
+    (joined IsScaled fx_times layer.effects effects)
+
+-- the keyframes of a stream that has few
+pub few_at : (params : List Curve) (i : ℕ) (curve : Curve) (keys : List Keyframe) → All (λ c. length c.keys ≤ most_keys) params → i < length params → curve ≡ slice_index_or params i curve → keys ≡ curve.keys → 1 ≤ length keys → IsKeyCount keys
+few_at params i curve keys few within is same some =
+    let here : length (slice_index_or params i curve).keys ≤ most_keys = few i curve within in
+    let long : length keys ≡ length (slice_index_or params i curve).keys = ap (length {A = Keyframe}) same ∙ ap (λ (c : Curve). length c.keys) is in
+    record { some = some; few = omega (arith, here, long) }
+
+-- those of an effect's parameters
+pub fx_scaled : (params : List (List Keyframe)) → All (λ keys. All (λ time. 1 ≤ time.scale) (key_times keys)) params → All (λ time. 1 ≤ time.scale) (flat_map key_times params)
+fx_scaled params all = joined IsScaled key_times params all
 
 pub comp_scaled : (comp : PlainComp) → 1 ≤ comp.frame.scale → All (λ layer. All (λ time. 1 ≤ time.scale) (layer_times layer)) comp.layers → All (λ time. 1 ≤ time.scale) (comp_times comp)
 comp_scaled comp frame layers =

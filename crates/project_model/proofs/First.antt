@@ -4,6 +4,7 @@ use Rattle.std.specs.Prelude.{◌⊎◌, Option, Some, None, option_map, slice_g
 use Rattle.project_model.specs.Laws.{IsBrokenAt, StandsBefore, IsFirstPlace, PlaceIsFirst}
 use Rattle.project_model.specs.Places.{first_of_two, first_from, first_in_comp, first_in_comps}
 use Rattle.project_model.specs.Rules.{place_of, breaks_project, breaks_comp, breaks_layer}
+use Rattle.project_model.specs.declared.effect.EffectSchema.{EffectSchema}
 use Rattle.project_model.specs.declared.place.Place.{Place}
 use Rattle.project_model.specs.declared.place.Place.TheVariants as place
 use Rattle.project_model.specs.declared.plain.PlainComp.{PlainComp}
@@ -221,16 +222,16 @@ comps_some layers_of in_comp in_layer i (comp ∷ rest) first e =
 
 -- ---- in a project
 
-abbrev InComps : PlainProject → Rule → Place → Type 0
-InComps project rule at =
-    BrokenIn (λ (comp : PlainComp). comp.layers) (breaks_comp project rule) (breaks_layer project rule) 0 project.comps at
+abbrev InComps : List EffectSchema → PlainProject → Rule → Place → Type 0
+InComps schemas project rule at =
+    BrokenIn (λ (comp : PlainComp). comp.layers) (breaks_comp project rule) (breaks_layer schemas project rule) 0 project.comps at
 
-to_comps : (project : PlainProject) (rule : Rule) (at : Place) → IsBrokenAt project rule at → (IsBrokenAt project rule place.Project) ⊎ InComps project rule at
-to_comps project rule place.Project h = inl h
-to_comps project rule (place.Comp i) h =
+to_comps : (schemas : List EffectSchema) (project : PlainProject) (rule : Rule) (at : Place) → IsBrokenAt schemas project rule at → (IsBrokenAt schemas project rule place.Project) ⊎ InComps schemas project rule at
+to_comps schemas project rule place.Project h = inl h
+to_comps schemas project rule (place.Comp i) h =
     let same : i ≡ 0 + i = omega arith in
     inr (record { place = i; comp = h.0; here = h.1; broken = (same, ap (λ (n : ℕ). breaks_comp project rule n h.0) (sym same) ∙ h.2) })
-to_comps project rule (place.Layer i j) h =
+to_comps schemas project rule (place.Layer i j) h =
     let same : i ≡ 0 + i = omega arith in
     inr (record {
       place = i;
@@ -239,13 +240,13 @@ to_comps project rule (place.Layer i j) h =
       broken = (same, record { place = j; item = h.2.0; counted = omega arith; here = h.2.1; accepted = h.2.2 });
     })
 
-from_comps : (project : PlainProject) (rule : Rule) (at : Place) → InComps project rule at → IsBrokenAt project rule at
-from_comps project rule place.Project h = absurd h.broken
-from_comps project rule (place.Comp i) h =
+from_comps : (schemas : List EffectSchema) (project : PlainProject) (rule : Rule) (at : Place) → InComps schemas project rule at → IsBrokenAt schemas project rule at
+from_comps schemas project rule place.Project h = absurd h.broken
+from_comps schemas project rule (place.Comp i) h =
     let same : h.place ≡ i = omega (arith, h.broken.0) in
     let zero_first : 0 + h.place ≡ i = omega (arith, h.broken.0) in
     (h.comp, ap (slice_get project.comps) (sym same) ∙ h.here, ap (λ (n : ℕ). breaks_comp project rule n h.comp) (sym zero_first) ∙ h.broken.1)
-from_comps project rule (place.Layer i j) h =
+from_comps schemas project rule (place.Layer i j) h =
     let same : h.place ≡ i = omega (arith, h.broken.0) in
     let layer = h.broken.1 in
     let at : layer.place ≡ j = omega (arith, layer.counted) in (
@@ -254,30 +255,30 @@ from_comps project rule (place.Layer i j) h =
       (layer.item, ap (slice_get h.comp.layers) (sym at) ∙ layer.here, layer.accepted),
     )
 
-place_some : (project : PlainProject) (rule : Rule) (first : Place) → place_of project rule ≡ Some first → IsFirstPlace project rule first
-place_some project rule first e =
+place_some : (schemas : List EffectSchema) (project : PlainProject) (rule : Rule) (first : Place) → place_of schemas project rule ≡ Some first → IsFirstPlace schemas project rule first
+place_some schemas project rule first e =
     elim (choice_some (breaks_project project rule) place.Project _ first e) [
-      | inl at ↦ subst (IsFirstPlace project rule) at.1 (record { broken = at.0; first_of_all = before_all project rule })
+      | inl at ↦ subst (IsFirstPlace schemas project rule) at.1 (record { broken = at.0; first_of_all = before_all project rule })
       | inr behind ↦
-          let found = comps_some (λ (comp : PlainComp). comp.layers) (breaks_comp project rule) (breaks_layer project rule) 0 project.comps first behind.1 in
+          let found = comps_some (λ (comp : PlainComp). comp.layers) (breaks_comp project rule) (breaks_layer schemas project rule) 0 project.comps first behind.1 in
           record {
-            broken = from_comps project rule first found.broken;
+            broken = from_comps schemas project rule first found.broken;
             first_of_all = λ other before h.
-                elim (to_comps project rule other h) [ inl out ↦ untested (breaks_project project rule) out behind.0 | inr inside ↦ found.least other before inside ];
+                elim (to_comps schemas project rule other h) [ inl out ↦ untested (breaks_project project rule) out behind.0 | inr inside ↦ found.least other before inside ];
           }
     ]
   where
-    before_all : (p : PlainProject) (r : Rule) (other : Place) → StandsBefore other place.Project → ¬ IsBrokenAt p r other
+    before_all : (p : PlainProject) (r : Rule) (other : Place) → StandsBefore other place.Project → ¬ IsBrokenAt schemas p r other
     before_all p r place.Project before h = before
     before_all p r (place.Comp i) before h = before
     before_all p r (place.Layer i j) before h = before
 
-place_none : (project : PlainProject) (rule : Rule) → place_of project rule ≡ None → (other : Place) → ¬ IsBrokenAt project rule other
-place_none project rule e other h =
+place_none : (schemas : List EffectSchema) (project : PlainProject) (rule : Rule) → place_of schemas project rule ≡ None → (other : Place) → ¬ IsBrokenAt schemas project rule other
+place_none schemas project rule e other h =
     let both = choice_none (breaks_project project rule) place.Project _ e in
-    elim (to_comps project rule other h) [
+    elim (to_comps schemas project rule other h) [
       | inl out ↦ untested (breaks_project project rule) out both.0
-      | inr inside ↦ comps_none (λ (comp : PlainComp). comp.layers) (breaks_comp project rule) (breaks_layer project rule) 0 project.comps both.1 other inside
+      | inr inside ↦ comps_none (λ (comp : PlainComp). comp.layers) (breaks_comp project rule) (breaks_layer schemas project rule) 0 project.comps both.1 other inside
     ]
 
 pub place_first : PlaceIsFirst

@@ -7,7 +7,7 @@ use Rattle.std.proofs.lemmas.List.Elements.{All-weaker}
 use Rattle.std.proofs.lemmas.List.Folds.{list_all-append}
 use Rattle.std.proofs.lemmas.List.Sums.{AllPass-from_list_all, list_all-from_AllPass}
 use Rattle.rational_time.specs.declared.time.Time.{Time}
-use Rattle.project_model.specs.Form.{IsKeyCount, IsFormedLayer, IsFormedComp, IsFormed, is_key_count, is_formed_layer, is_formed_comp, is_scaled, is_formed}
+use Rattle.project_model.specs.Form.{IsKeyCount, IsFormedFx, IsFormedLayer, IsFormedComp, IsFormed, is_key_count, is_formed_fx, is_formed_layer, is_formed_comp, is_scaled, is_formed}
 use Rattle.project_model.specs.Times.{times_of}
 
 -- a test of all pieces
@@ -33,13 +33,32 @@ tests_count keys = (
   λ h. and_from _ _ (le-leb _ _ h.some) (le-leb _ _ h.few),
 )
 
+tests_fx : Tests is_formed_fx IsFormedFx
+tests_fx fx = (
+  λ e. record { params = (all_tests is_key_count IsKeyCount tests_count fx.params).0 e },
+  λ h. (all_tests is_key_count IsKeyCount tests_count fx.params).1 h.params,
+)
+
 tests_layer : Tests is_formed_layer IsFormedLayer
 tests_layer layer = (
   λ e.
-      let both = and_parts _ _ e in
+      let all = and_parts _ _ e in
+      let few = and_parts _ _ all.0 in
+      let both = and_parts _ _ few.0 in
       let front = and_parts _ _ both.0 in
-      record { opacity = (tests_count layer.opacity).0 front.0; x = (tests_count layer.x).0 front.1; y = (tests_count layer.y).0 both.1 },
-  λ h. and_from _ _ (and_from _ _ ((tests_count layer.opacity).1 h.opacity) ((tests_count layer.x).1 h.x)) ((tests_count layer.y).1 h.y),
+      record {
+        opacity = (tests_count layer.opacity).0 front.0;
+        x = (tests_count layer.x).0 front.1;
+        y = (tests_count layer.y).0 both.1;
+        few_effects = leb-true _ _ few.1;
+        effects = (all_tests is_formed_fx IsFormedFx tests_fx layer.effects).0 all.1;
+      },
+  λ h.
+      and_from _ _
+      (and_from _ _
+      (and_from _ _ (and_from _ _ ((tests_count layer.opacity).1 h.opacity) ((tests_count layer.x).1 h.x)) ((tests_count layer.y).1 h.y))
+      (le-leb _ _ h.few_effects))
+      ((all_tests is_formed_fx IsFormedFx tests_fx layer.effects).1 h.effects),
 )
 
 tests_comp : Tests is_formed_comp IsFormedComp

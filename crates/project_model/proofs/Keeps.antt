@@ -10,21 +10,24 @@ use Rattle.rational_time.specs.Times.{IsNear, is_near}
 use Rattle.rational_time.specs.declared.time.Time.{Time}
 use Rattle.param_stream.specs.Curve.{IsBetween, rises}
 use Rattle.param_stream.specs.declared.key.Keyframe.{Keyframe}
-use Rattle.project_model.specs.Bounds.{most_of, most_frames, full_opacity, least_position, greatest_position, is_among, is_size, is_colour, is_between}
+use Rattle.project_model.specs.Bounds.{most_of, most_frames, full_opacity, least_position, greatest_position, is_among, is_size, is_colour, is_between, all_between}
 use Rattle.project_model.specs.Broken.{first_broken, breach_of}
+use Rattle.project_model.specs.EffectRules.{has_params, has_layers, has_sequence}
 use Rattle.project_model.specs.Places.{first_of_two, first_from, first_in_comps}
-use Rattle.project_model.specs.Rules.{number_of, rules, place_of, breaks_project, breaks_comp, breaks_layer, is_solid, is_clip_of, is_comp_of, all_between}
+use Rattle.project_model.specs.Rules.{number_of, rules, place_of, breaks_project, breaks_comp, breaks_layer, is_solid, is_clip_of, is_comp_of, are_rising}
 use Rattle.project_model.specs.Sound.{IsPictureSize, IsColour, IsSoundItem}
 use Rattle.project_model.specs.Times.{layer_times}
+use Rattle.project_model.specs.declared.effect.EffectSchema.{EffectSchema}
 use Rattle.project_model.specs.declared.item.Item.{Item}
 use Rattle.project_model.specs.declared.item.Item.TheVariants.{Solid as SolidItem, Clip as ClipItem, Comp as CompItem}
 use Rattle.project_model.specs.declared.place.Place.{Place}
 use Rattle.project_model.specs.declared.place.Place.TheVariants as place
+use Rattle.project_model.specs.declared.plain.PlainFx.{PlainFx}
 use Rattle.project_model.specs.declared.plain.PlainLayer.{PlainLayer}
 use Rattle.project_model.specs.declared.plain.PlainComp.{PlainComp}
 use Rattle.project_model.specs.declared.plain.PlainProject.{PlainProject}
 use Rattle.project_model.specs.declared.rule.Rule.{Rule}
-use Rattle.project_model.specs.declared.rule.Rule.TheVariants.{Root, ClipName, ClipNames, Size, ClipDepth, Frames, FrameValue, Near, Length, Base, ClipBytes, Solid, ClipSource, CompSource, Nesting, Mode, Matte, MatteLayer, Span, Rising, Range, Rank}
+use Rattle.project_model.specs.declared.rule.Rule.TheVariants.{Root, ClipName, ClipNames, Size, ClipDepth, Frames, FrameValue, Near, Length, Base, ClipBytes, Solid, ClipSource, CompSource, Nesting, Mode, Matte, MatteLayer, Span, Rising, Range, Params, EffectLayers, Sequence, Rank}
 
 -- ---- nothing is found
 
@@ -69,7 +72,10 @@ each_kept place_of h MatteLayer = h.1.1.1.1.1.1.1.1.1.1.1.1.1.1.1.1.1.0
 each_kept place_of h Span = h.1.1.1.1.1.1.1.1.1.1.1.1.1.1.1.1.1.1.0
 each_kept place_of h Rising = h.1.1.1.1.1.1.1.1.1.1.1.1.1.1.1.1.1.1.1.0
 each_kept place_of h Range = h.1.1.1.1.1.1.1.1.1.1.1.1.1.1.1.1.1.1.1.1.0
-each_kept place_of h Rank = h.1.1.1.1.1.1.1.1.1.1.1.1.1.1.1.1.1.1.1.1.1.0
+each_kept place_of h Params = h.1.1.1.1.1.1.1.1.1.1.1.1.1.1.1.1.1.1.1.1.1.0
+each_kept place_of h EffectLayers = h.1.1.1.1.1.1.1.1.1.1.1.1.1.1.1.1.1.1.1.1.1.1.0
+each_kept place_of h Sequence = h.1.1.1.1.1.1.1.1.1.1.1.1.1.1.1.1.1.1.1.1.1.1.1.0
+each_kept place_of h Rank = h.1.1.1.1.1.1.1.1.1.1.1.1.1.1.1.1.1.1.1.1.1.1.1.1.0
 
 -- no test accepts, at whatever index it is asked
 pub record IsPassed {C L : Type 0} (in_comp : ℕ → C → Bool) (in_layer : C → ℕ → L → Bool) (layers : List L) (comp : C) : Type 0 where
@@ -98,21 +104,21 @@ none_in_comps layers_of in_comp in_layer i (comp ∷ rest) e =
     (none_in_comps layers_of in_comp in_layer (i + 1) rest both.1)
 
 -- the compositions and layers in which the rule is tested
-abbrev pub ArePassed : PlainProject → Rule → Type 0
-ArePassed project rule =
-    All (λ comp. IsPassed (breaks_comp project rule) (breaks_layer project rule) comp.layers comp) project.comps
+abbrev pub ArePassed : List EffectSchema → PlainProject → Rule → Type 0
+ArePassed schemas project rule =
+    All (λ comp. IsPassed (breaks_comp project rule) (breaks_layer schemas project rule) comp.layers comp) project.comps
 
-passed : (project : PlainProject) (rule : Rule) → place_of project rule ≡ None → ArePassed project rule
-passed project rule e =
+passed : (schemas : List EffectSchema) (project : PlainProject) (rule : Rule) → place_of schemas project rule ≡ None → ArePassed schemas project rule
+passed schemas project rule e =
     let outside = chosen_none (breaks_project project rule) place.Project _ e in
-    none_in_comps (λ (comp : PlainComp). comp.layers) (breaks_comp project rule) (breaks_layer project rule) 0 project.comps outside.1
+    none_in_comps (λ (comp : PlainComp). comp.layers) (breaks_comp project rule) (breaks_layer schemas project rule) 0 project.comps outside.1
 
-pub each_passed : (project : PlainProject) → breach_of project ≡ None → (rule : Rule) → ArePassed project rule
-each_passed project e rule = passed project rule (each_kept (place_of project) (all_kept number_of (place_of project) rules e) rule)
+pub each_passed : (schemas : List EffectSchema) (project : PlainProject) → breach_of schemas project ≡ None → (rule : Rule) → ArePassed schemas project rule
+each_passed schemas project e rule = passed schemas project rule (each_kept (place_of schemas project) (all_kept number_of (place_of schemas project) rules e) rule)
 
-pub outside_passed : (project : PlainProject) → breach_of project ≡ None → (rule : Rule) → breaks_project project rule ≡ false
-outside_passed project e rule =
-    (chosen_none (breaks_project project rule) place.Project _ (each_kept (place_of project) (all_kept number_of (place_of project) rules e) rule)).0
+pub outside_passed : (schemas : List EffectSchema) (project : PlainProject) → breach_of schemas project ≡ None → (rule : Rule) → breaks_project project rule ≡ false
+outside_passed schemas project e rule =
+    (chosen_none (breaks_project project rule) place.Project _ (each_kept (place_of schemas project) (all_kept number_of (place_of schemas project) rules e) rule)).0
 
 -- ---- in numbers
 
@@ -154,7 +160,7 @@ between least most value e =
     let both = and_parts (int_le least value) (int_le value most) e in
     (omega (arith, ints, both.0), omega (arith, ints, both.1))
 
-all_within : (least most : ℤ) (keys : List Keyframe) → all_between least most keys ≡ true → All (λ (key : Keyframe). IsBetween least most key.value) keys
+pub all_within : (least most : ℤ) (keys : List Keyframe) → all_between least most keys ≡ true → All (λ (key : Keyframe). IsBetween least most key.value) keys
 all_within least most keys e =
     All-weaker (λ (key : Keyframe). is_between least most key.value ≡ true) (λ (key : Keyframe). IsBetween least most key.value)
     (λ key h. between least most key.value h) keys
@@ -166,13 +172,20 @@ pub record KeepsStreams (layer : PlainLayer) : Type 0 where
   pub opacity_rises : IsTrue (rises layer.opacity)
   pub x_rises : IsTrue (rises layer.x)
   pub y_rises : IsTrue (rises layer.y)
+  pub effects_rise : All (λ fx. All (λ keys. IsTrue (rises keys)) fx.params) layer.effects
 
 pub record KeepsRanges (layer : PlainLayer) : Type 0 where
   pub opacity : All (λ key. IsBetween (pos 0) full_opacity key.value) layer.opacity
   pub x : All (λ key. IsBetween least_position greatest_position key.value) layer.x
   pub y : All (λ key. IsBetween least_position greatest_position key.value) layer.y
 
-pub record KeepsComp (depth clips comps : ℕ) (comp : PlainComp) : Type 0 where
+-- what the rules on effects ask of each
+pub record KeepsFx (schemas : List EffectSchema) (count : ℕ) (fx : PlainFx) : Type 0 where
+  pub params : has_params schemas fx ≡ true
+  pub layers : has_layers schemas count fx ≡ true
+  pub sequence : has_sequence schemas fx ≡ true
+
+pub record KeepsComp (schemas : List EffectSchema) (depth clips comps : ℕ) (comp : PlainComp) : Type 0 where
   pub size : IsPictureSize comp.width comp.height
   pub some_frame : 1 ≤ comp.frames
   pub few_frames : comp.frames ≤ most_frames
@@ -184,18 +197,34 @@ pub record KeepsComp (depth clips comps : ℕ) (comp : PlainComp) : Type 0 where
   pub mattes : All (λ layer. IsSome layer.matte) comp.layers
   pub rising : All KeepsStreams comp.layers
   pub ranges : All KeepsRanges comp.layers
+  pub effects : All (λ layer. All (KeepsFx schemas (length comp.layers)) layer.effects) comp.layers
 
-rising_layer : (layer : PlainLayer) → (rises layer.opacity && rises layer.x && rises layer.y) ≡ true → KeepsStreams layer
+rising_effects : (effects : List PlainFx) → list_all (λ (fx : PlainFx). list_all rises fx.params) effects ≡ true → All (λ (fx : PlainFx). All (λ keys. IsTrue (rises keys)) fx.params) effects
+rising_effects effects e =
+    All-weaker (λ (fx : PlainFx). list_all rises fx.params ≡ true) (λ (fx : PlainFx). All (λ keys. IsTrue (rises keys)) fx.params)
+    (λ fx h. AllPass-from_list_all rises fx.params h)
+    effects
+    (AllPass-from_list_all (λ (fx : PlainFx). list_all rises fx.params) effects e)
+
+rising_layer : (layer : PlainLayer) → are_rising layer ≡ true → KeepsStreams layer
 rising_layer layer e =
-    let parts = and_parts _ _ e in
+    let all = and_parts _ _ e in
+    let parts = and_parts _ _ all.0 in
     let front = and_parts _ _ parts.0 in
-    record { opacity_rises = front.0; x_rises = front.1; y_rises = parts.1 }
+    record { opacity_rises = front.0; x_rises = front.1; y_rises = parts.1; effects_rise = rising_effects layer.effects all.1 }
 
 ranged_layer : (layer : PlainLayer) → (all_between (pos 0) full_opacity layer.opacity && all_between least_position greatest_position layer.x && all_between least_position greatest_position layer.y) ≡ true → KeepsRanges layer
 ranged_layer layer e =
     let parts = and_parts _ _ e in
     let front = and_parts _ _ parts.0 in
     record { opacity = all_within _ _ layer.opacity front.0; x = all_within _ _ layer.x front.1; y = all_within _ _ layer.y parts.1 }
+
+effects_keep : (schemas : List EffectSchema) (count : ℕ) (effects : List PlainFx) → list_all (has_params schemas) effects ≡ true → list_all (has_layers schemas count) effects ≡ true → list_all (has_sequence schemas) effects ≡ true → All (KeepsFx schemas count) effects
+effects_keep schemas count effects params layers sequence k d within = record {
+  params = AllPass-from_list_all (has_params schemas) effects params k d within;
+  layers = AllPass-from_list_all (has_layers schemas count) effects layers k d within;
+  sequence = AllPass-from_list_all (has_sequence schemas) effects sequence k d within;
+}
 
 some_of : {A : Type 0} (o : Option A) → is_none o ≡ false → IsSome o
 some_of None e = cc
@@ -204,8 +233,8 @@ some_of (Some a) e = refl
 above : (value : ℤ) → int_lt value (pos 1) ≡ false → pos 1 ≤ℤ value
 above value e = omega (arith, ints, e)
 
-comp_keeps : (project : PlainProject) (comp : PlainComp) → ((rule : Rule) → IsPassed (breaks_comp project rule) (breaks_layer project rule) comp.layers comp) → KeepsComp project.depth (length project.clips) (length project.comps) comp
-comp_keeps project comp h =
+comp_keeps : (schemas : List EffectSchema) (project : PlainProject) (comp : PlainComp) → ((rule : Rule) → IsPassed (breaks_comp project rule) (breaks_layer schemas project rule) comp.layers comp) → KeepsComp schemas project.depth (length project.clips) (length project.comps) comp
+comp_keeps schemas project comp h =
     let frames = among 1 most_frames comp.frames (not-false _ (h Frames).comp_passed) in
     record {
       size = picture_size comp.width comp.height (not-false _ (h Size).comp_passed);
@@ -213,16 +242,20 @@ comp_keeps project comp h =
       few_frames = frames.1;
       some_time = above comp.frame.value (h FrameValue).comp_passed;
       frame_near = near comp.frame (not-false _ (h Near).comp_passed);
-      layers_near = All-weaker (λ layer. (m : ℕ) × (breaks_layer project Near comp m layer ≡ false)) (λ layer. All IsNear (layer_times layer)) (λ layer k. all_near (layer_times layer) (not-false _ k.1)) comp.layers (h Near).layers_passed;
+      layers_near = All-weaker (λ layer. (m : ℕ) × (breaks_layer schemas project Near comp m layer ≡ false)) (λ layer. All IsNear (layer_times layer)) (λ layer k. all_near (layer_times layer) (not-false _ k.1)) comp.layers (h Near).layers_passed;
       sources = λ k d within.
           sound_item (most_of project.depth) (length project.clips) (length project.comps) (slice_index_or comp.layers k d).source
           (not-false _ ((h Solid).layers_passed k d within).1) (not-false _ ((h ClipSource).layers_passed k d within).1)
           (not-false _ ((h CompSource).layers_passed k d within).1);
-      modes = All-weaker (λ layer. (m : ℕ) × (breaks_layer project Mode comp m layer ≡ false)) (λ layer. IsSome layer.mode) (λ layer k. some_of layer.mode k.1) comp.layers (h Mode).layers_passed;
-      mattes = All-weaker (λ layer. (m : ℕ) × (breaks_layer project Matte comp m layer ≡ false)) (λ layer. IsSome layer.matte) (λ layer k. some_of layer.matte k.1) comp.layers (h Matte).layers_passed;
-      rising = All-weaker (λ layer. (m : ℕ) × (breaks_layer project Rising comp m layer ≡ false)) KeepsStreams (λ layer k. rising_layer layer (not-false _ k.1)) comp.layers (h Rising).layers_passed;
-      ranges = All-weaker (λ layer. (m : ℕ) × (breaks_layer project Range comp m layer ≡ false)) KeepsRanges (λ layer k. ranged_layer layer (not-false _ k.1)) comp.layers (h Range).layers_passed;
+      modes = All-weaker (λ layer. (m : ℕ) × (breaks_layer schemas project Mode comp m layer ≡ false)) (λ layer. IsSome layer.mode) (λ layer k. some_of layer.mode k.1) comp.layers (h Mode).layers_passed;
+      mattes = All-weaker (λ layer. (m : ℕ) × (breaks_layer schemas project Matte comp m layer ≡ false)) (λ layer. IsSome layer.matte) (λ layer k. some_of layer.matte k.1) comp.layers (h Matte).layers_passed;
+      rising = All-weaker (λ layer. (m : ℕ) × (breaks_layer schemas project Rising comp m layer ≡ false)) KeepsStreams (λ layer k. rising_layer layer (not-false _ k.1)) comp.layers (h Rising).layers_passed;
+      ranges = All-weaker (λ layer. (m : ℕ) × (breaks_layer schemas project Range comp m layer ≡ false)) KeepsRanges (λ layer k. ranged_layer layer (not-false _ k.1)) comp.layers (h Range).layers_passed;
+      effects = λ k d within.
+          effects_keep schemas (length comp.layers) (slice_index_or comp.layers k d).effects
+          (not-false _ ((h Params).layers_passed k d within).1) (not-false _ ((h EffectLayers).layers_passed k d within).1)
+          (not-false _ ((h Sequence).layers_passed k d within).1);
     }
 
-pub comps_keep : (project : PlainProject) → breach_of project ≡ None → All (KeepsComp project.depth (length project.clips) (length project.comps)) project.comps
-comps_keep project e k d within = comp_keeps project _ (λ rule. each_passed project e rule k d within)
+pub comps_keep : (schemas : List EffectSchema) (project : PlainProject) → breach_of schemas project ≡ None → All (KeepsComp schemas project.depth (length project.clips) (length project.comps)) project.comps
+comps_keep schemas project e k d within = comp_keeps schemas project _ (λ rule. each_passed schemas project e rule k d within)

@@ -5,11 +5,12 @@ use Rattle.project_model.specs.Broken.{first_broken, breach_of}
 use Rattle.project_model.specs.Laws.{IsLeastBreach}
 use Rattle.project_model.specs.Places.{first_of_two}
 use Rattle.project_model.specs.Rules.{number_of, rules, place_of}
+use Rattle.project_model.specs.declared.effect.EffectSchema.{EffectSchema}
 use Rattle.project_model.specs.declared.place.Breach.{Breach}
 use Rattle.project_model.specs.declared.place.Place.{Place}
 use Rattle.project_model.specs.declared.plain.PlainProject.{PlainProject}
 use Rattle.project_model.specs.declared.rule.Rule.{Rule}
-use Rattle.project_model.specs.declared.rule.Rule.TheVariants.{Root, ClipName, ClipNames, Size, ClipDepth, Frames, FrameValue, Near, Length, Base, ClipBytes, Solid, ClipSource, CompSource, Nesting, Mode, Matte, MatteLayer, Span, Rising, Range, Rank}
+use Rattle.project_model.specs.declared.rule.Rule.TheVariants.{Root, ClipName, ClipNames, Size, ClipDepth, Frames, FrameValue, Near, Length, Base, ClipBytes, Solid, ClipSource, CompSource, Nesting, Mode, Matte, MatteLayer, Span, Rising, Range, Params, EffectLayers, Sequence, Rank}
 use Rattle.project_model.proofs.Keeps.{all_kept, each_kept}
 
 -- ---- none is broken
@@ -18,10 +19,10 @@ none_of_kept : {R : Type 0} (number_of : R → ℕ) (place_of : R → Option Pla
 none_of_kept number_of place_of [] kept = refl
 none_of_kept number_of place_of (rule ∷ rest) kept = rw (kept rule) (none_of_kept number_of place_of rest kept)
 
-pub rules_kept : (project : PlainProject) → (breach_of project ≡ None) ↔ ((rule : Rule) → place_of project rule ≡ None)
-rules_kept project = (
-  λ e rule. each_kept (place_of project) (all_kept number_of (place_of project) rules e) rule,
-  λ kept. none_of_kept number_of (place_of project) rules kept,
+pub rules_kept : (schemas : List EffectSchema) (project : PlainProject) → (breach_of schemas project ≡ None) ↔ ((rule : Rule) → place_of schemas project rule ≡ None)
+rules_kept schemas project = (
+  λ e rule. each_kept (place_of schemas project) (all_kept number_of (place_of schemas project) rules e) rule,
+  λ kept. none_of_kept number_of (place_of schemas project) rules kept,
 )
 
 -- ---- the least number
@@ -92,12 +93,15 @@ each_below place_of n h MatteLayer = h.1.1.1.1.1.1.1.1.1.1.1.1.1.1.1.1.1.0
 each_below place_of n h Span = h.1.1.1.1.1.1.1.1.1.1.1.1.1.1.1.1.1.1.0
 each_below place_of n h Rising = h.1.1.1.1.1.1.1.1.1.1.1.1.1.1.1.1.1.1.1.0
 each_below place_of n h Range = h.1.1.1.1.1.1.1.1.1.1.1.1.1.1.1.1.1.1.1.1.0
-each_below place_of n h Rank = h.1.1.1.1.1.1.1.1.1.1.1.1.1.1.1.1.1.1.1.1.1.0
+each_below place_of n h Params = h.1.1.1.1.1.1.1.1.1.1.1.1.1.1.1.1.1.1.1.1.1.0
+each_below place_of n h EffectLayers = h.1.1.1.1.1.1.1.1.1.1.1.1.1.1.1.1.1.1.1.1.1.1.0
+each_below place_of n h Sequence = h.1.1.1.1.1.1.1.1.1.1.1.1.1.1.1.1.1.1.1.1.1.1.1.0
+each_below place_of n h Rank = h.1.1.1.1.1.1.1.1.1.1.1.1.1.1.1.1.1.1.1.1.1.1.1.1.0
 
 rules_rise : Rise number_of 0 rules
-rules_rise = (lit< tt, (lit< tt, (lit< tt, (lit< tt, (lit< tt, (lit< tt, (lit< tt, (lit< tt, (lit< tt, (lit< tt, (lit< tt, (lit< tt, (lit< tt, (lit< tt, (lit< tt, (lit< tt, (lit< tt, (lit< tt, (lit< tt, (lit< tt, (lit< tt, (lit< tt, tt))))))))))))))))))))))
+rules_rise = (lit< tt, (lit< tt, (lit< tt, (lit< tt, (lit< tt, (lit< tt, (lit< tt, (lit< tt, (lit< tt, (lit< tt, (lit< tt, (lit< tt, (lit< tt, (lit< tt, (lit< tt, (lit< tt, (lit< tt, (lit< tt, (lit< tt, (lit< tt, (lit< tt, (lit< tt, (lit< tt, (lit< tt, (lit< tt, tt)))))))))))))))))))))))))
 
-pub least_breach : (project : PlainProject) (breach : Breach) → breach_of project ≡ Some breach → IsLeastBreach project breach
-least_breach project breach e =
-    let first = found number_of (place_of project) 0 rules breach rules_rise e in
-    record { rule = first.rule; number = first.number; place = first.place; least = each_below (place_of project) breach.number first.least }
+pub least_breach : (schemas : List EffectSchema) (project : PlainProject) (breach : Breach) → breach_of schemas project ≡ Some breach → IsLeastBreach schemas project breach
+least_breach schemas project breach e =
+    let first = found number_of (place_of schemas project) 0 rules breach rules_rise e in
+    record { rule = first.rule; number = first.number; place = first.place; least = each_below (place_of schemas project) breach.number first.least }

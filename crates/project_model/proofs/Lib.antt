@@ -2,6 +2,7 @@ pub mod Based
 pub mod Below
 pub mod Checked
 pub mod Copied
+pub mod EffectTests
 pub mod First
 pub mod Formed
 pub mod Found
@@ -13,5 +14,6 @@ pub mod Named
 pub mod Nesting
 pub mod Pushed
 pub mod Ranked
+pub mod RankSteps
 pub mod Readied
 pub mod Widths

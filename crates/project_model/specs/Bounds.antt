@@ -1,8 +1,10 @@
 -- The bounds of a project's parts, and the numbers that they may be.
-use Rattle.std.specs.Prelude.{ℕ, ◌*◌, ◌==◌, ◌&&◌, ◌||◌, nat_le, Bool, ℤ, int_le, Option, Some, None, if◌then◌else◌}
+use Rattle.std.specs.Prelude.{ℕ, ◌*◌, ◌==◌, ◌&&◌, ◌||◌, nat_le, Bool, List, ℤ, int_le, Option, Some, None, if◌then◌else◌}
+use Rattle.std.specs.List.{list_all}
 use Rattle.rational_time.specs.declared.time.Time.{Time}
 use Rattle.rational_time.specs.declared.time.TheConstants.{GREATEST_BASE}
-use Rattle.project_model.specs.declared.bounds.TheConstants.{MOST_CLIPS, MOST_CLIP_BYTES, MOST_NAME_BYTES, CLIP_HEADER_LENGTH, GREATEST_RANK, MOST_COMPS, MOST_LAYERS, MOST_LAYERS_IN_ALL, MOST_KEYS, GREATEST_SIDE, GREATEST_AREA, MOST_FRAMES, GREATEST_OF_8_BITS, GREATEST_OF_16_BITS, FULL_OPACITY, LEAST_POSITION, GREATEST_POSITION}
+use Rattle.param_stream.specs.declared.key.Keyframe.{Keyframe}
+use Rattle.project_model.specs.declared.bounds.TheConstants.{MOST_CLIPS, MOST_CLIP_BYTES, MOST_NAME_BYTES, CLIP_HEADER_LENGTH, GREATEST_RANK, MOST_COMPS, MOST_LAYERS, MOST_LAYERS_IN_ALL, MOST_EFFECTS, MOST_KEYS, GREATEST_SIDE, GREATEST_AREA, MOST_FRAMES, GREATEST_OF_8_BITS, GREATEST_OF_16_BITS, FULL_OPACITY, LEAST_POSITION, GREATEST_POSITION}
 
 abbrev pub is_bit_depth : ℕ → Bool
 is_bit_depth depth = (depth == 8) || (depth == 16)
@@ -36,6 +38,10 @@ most_layers = MOST_LAYERS
 
 abbrev pub most_layers_in_all : ℕ
 most_layers_in_all = MOST_LAYERS_IN_ALL
+
+-- the most effects of a layer
+abbrev pub most_effects : ℕ
+most_effects = MOST_EFFECTS
 
 abbrev pub most_keys : ℕ
 most_keys = MOST_KEYS
@@ -76,6 +82,10 @@ is_colour most a r g b = nat_le a most && nat_le r a && nat_le g a && nat_le b a
 
 abbrev pub is_between : ℤ → ℤ → ℤ → Bool
 is_between least most value = int_le least value && int_le value most
+
+-- each value of the stream is from the least to the most
+abbrev pub all_between : ℤ → ℤ → List Keyframe → Bool
+all_between least most keys = list_all (λ key. is_between least most key.value) keys
 
 -- 1 where there is no time
 abbrev pub scale_of : Option Time → ℕ

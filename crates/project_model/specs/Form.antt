@@ -3,8 +3,9 @@ use Rattle.std.specs.Prelude.{ℕ, ◌≤◌, ◌+◌, ◌&&◌, Bool, nat_le, L
 use Rattle.std.specs.List.{list_all}
 use Rattle.rational_time.specs.declared.time.Time.{Time}
 use Rattle.param_stream.specs.declared.key.Keyframe.{Keyframe}
-use Rattle.project_model.specs.Bounds.{is_bit_depth, is_among, most_clips, most_comps, most_layers, most_layers_in_all, most_keys}
+use Rattle.project_model.specs.Bounds.{is_bit_depth, is_among, most_clips, most_comps, most_layers, most_layers_in_all, most_effects, most_keys}
 use Rattle.project_model.specs.Times.{times_of}
+use Rattle.project_model.specs.declared.plain.PlainFx.{PlainFx}
 use Rattle.project_model.specs.declared.plain.PlainLayer.{PlainLayer}
 use Rattle.project_model.specs.declared.plain.PlainComp.{PlainComp}
 use Rattle.project_model.specs.declared.plain.PlainProject.{PlainProject}
@@ -13,10 +14,16 @@ pub record IsKeyCount (keys : List Keyframe) : Type 0 where
   pub some : 1 ≤ length keys
   pub few : length keys ≤ most_keys
 
+-- so many keyframes for each parameter of an effect
+pub record IsFormedFx (fx : PlainFx) : Type 0 where
+  pub params : All IsKeyCount fx.params
+
 pub record IsFormedLayer (layer : PlainLayer) : Type 0 where
   pub opacity : IsKeyCount layer.opacity
   pub x : IsKeyCount layer.x
   pub y : IsKeyCount layer.y
+  pub few_effects : length layer.effects ≤ most_effects
+  pub effects : All IsFormedFx layer.effects
 
 pub record IsFormedComp (comp : PlainComp) : Type 0 where
   pub few_layers : length comp.layers ≤ most_layers
@@ -41,8 +48,13 @@ pub record IsFormed (project : PlainProject) : Type 0 where
 abbrev pub is_key_count : List Keyframe → Bool
 is_key_count keys = is_among 1 most_keys (length keys)
 
+abbrev pub is_formed_fx : PlainFx → Bool
+is_formed_fx fx = list_all is_key_count fx.params
+
 abbrev pub is_formed_layer : PlainLayer → Bool
-is_formed_layer layer = is_key_count layer.opacity && is_key_count layer.x && is_key_count layer.y
+is_formed_layer layer =
+    is_key_count layer.opacity && is_key_count layer.x && is_key_count layer.y
+    && nat_le (length layer.effects) most_effects && list_all is_formed_fx layer.effects
 
 abbrev pub is_formed_comp : PlainComp → Bool
 is_formed_comp comp = nat_le (length comp.layers) most_layers && list_all is_formed_layer comp.layers

@@ -4,8 +4,7 @@ use Rattle.std.specs.List.{list_any, range_with_len}
 use Rattle.std.specs.Option.{option_map_or}
 use Rattle.project_model.specs.declared.item.Item.{Item}
 use Rattle.project_model.specs.declared.item.Item.TheVariants.{Solid, Clip, Comp}
-use Rattle.project_model.specs.declared.node.NodeId.{NodeId}
-use Rattle.project_model.specs.declared.node.NodeId.TheVariants.{Source, Stack}
+use Rattle.project_model.specs.declared.plain.PlainFx.{PlainFx}
 use Rattle.project_model.specs.declared.plain.PlainLayer.{PlainLayer}
 use Rattle.project_model.specs.declared.plain.PlainProject.{PlainProject}
 
@@ -63,9 +62,32 @@ source_rank stack (Solid width height a r g b) = 0
 source_rank stack (Clip index) = 0
 source_rank stack (Comp index) = 1 + stack index
 
+-- the rank of the source of the layer of this index, 0 where there is none
+abbrev pub source_rank_at : (ℕ → ℕ) → List PlainLayer → ℕ → ℕ
+source_rank_at stack layers index = option_map_or (λ layer. source_rank stack layer.source) (slice_get layers index) 0
+
+-- the rank of an effect among these layers: it is drawn from its input, which has this rank, and from the sources of the layers that it names
+abbrev pub fx_rank : (ℕ → ℕ) → List PlainLayer → ℕ → PlainFx → ℕ
+fx_rank stack layers input fx = 1 + fold (λ greatest index. max greatest (source_rank_at stack layers index)) input fx.layers
+
+-- the ranks of effects, where this is that of the first one's input, and each is the input of the next
+abbrev pub fx_ranks : (ℕ → ℕ) → List PlainLayer → ℕ → List PlainFx → List ℕ
+fx_ranks stack layers input [] = []
+fx_ranks stack layers input (fx ∷ rest) =
+    fx_rank stack layers input fx ∷ fx_ranks stack layers (fx_rank stack layers input fx) rest
+
+-- the ranks of a layer's nodes: that of its source, and then of its effects
+abbrev pub layer_ranks : (ℕ → ℕ) → List PlainLayer → PlainLayer → List ℕ
+layer_ranks stack layers layer =
+    source_rank stack layer.source ∷ fx_ranks stack layers (source_rank stack layer.source) layer.effects
+
+-- the rank of the last of them
+abbrev pub last_rank : (ℕ → ℕ) → List PlainLayer → PlainLayer → ℕ
+last_rank stack layers layer = fold (fx_rank stack layers) (source_rank stack layer.source) layer.effects
+
 -- the rank of the stack of these layers, where each stack has this rank
 abbrev pub rank_over : (ℕ → ℕ) → List PlainLayer → ℕ
-rank_over stack layers = 1 + fold (λ greatest layer. max greatest (source_rank stack layer.source)) 0 layers
+rank_over stack layers = 1 + fold (λ greatest layer. max greatest (last_rank stack layers layer)) 0 layers
 
 -- the rank of the stack of a composition, in so many turns: each nested composition takes one; without turns it has no layers
 abbrev pub stack_rank_in : ℕ → PlainProject → ℕ → ℕ
@@ -76,37 +98,14 @@ stack_rank_in (suc turns) project index = rank_over (stack_rank_in turns project
 abbrev pub stack_rank : PlainProject → ℕ → ℕ
 stack_rank project index = stack_rank_in (length project.comps) project index
 
--- where no composition reaches itself, the ranks are those of what is drawn from
-abbrev pub RanksAreAbove : Type 0
-RanksAreAbove =
-    (project : PlainProject) (index : ℕ)
-    → IsAcyclic project
-    → stack_rank project index ≡ rank_over (stack_rank project) (layers_in project index)
-
--- the ranks of the stacks, and of the sources of each composition's layers
+-- the ranks of the stacks, and of the nodes of each layer of each composition: its source's and then its effects'
 pub record RankTable : Type 0 where
   pub stacks : List ℕ
-  pub sources : List (List ℕ)
-
--- the rank of a node of the project, 0 where it is not there
-abbrev pub rank_of : PlainProject → NodeId → ℕ
-rank_of project (Source comp layer) =
-    option_map_or (λ here. source_rank (stack_rank project) here.source) (slice_get (layers_in project comp) layer) 0
-rank_of project (Stack comp) = option_map_or (λ here. stack_rank project comp) (slice_get project.comps comp) 0
+  pub nodes : List (List (List ℕ))
 
 -- those of a project
 abbrev pub ranks_of : PlainProject → RankTable
 ranks_of project = record {
   stacks = map (stack_rank project) (range_with_len 0 (length project.comps));
-  sources = map (λ comp. map (λ layer. source_rank (stack_rank project) layer.source) comp.layers) project.comps;
+  nodes = map (λ comp. map (layer_ranks (stack_rank project) comp.layers) comp.layers) project.comps;
 }
-
--- what the table says of a node, 0 where it is not there
-abbrev pub rank_in : RankTable → NodeId → ℕ
-rank_in ranks (Source comp layer) =
-    option_map_or (λ sources. option_map_or (λ rank. rank) (slice_get sources layer) 0) (slice_get ranks.sources comp) 0
-rank_in ranks (Stack comp) = option_map_or (λ rank. rank) (slice_get ranks.stacks comp) 0
-
--- the table of a project has the ranks of its nodes
-abbrev pub TableHasRanks : Type 0
-TableHasRanks = (project : PlainProject) (node : NodeId) → rank_in (ranks_of project) node ≡ rank_of project node

@@ -1,19 +1,20 @@
 -- The rules on a project's numbers: a line a rule for what breaks it, at each kind of place.
-use Rattle.std.specs.Prelude.{ℕ, zero, suc, ◌*◌, ◌&&◌, Bool, true, false, not, nat_lt, List, [], ◌∷◌, length, map, ℤ, pos, ◌*ℤ◌, int_lt, int_le, Option, Some, None, is_none, slice_get}
-use Rattle.std.specs.List.{list_all}
+use Rattle.std.specs.Prelude.{ℕ, zero, suc, ◌*◌, ◌&&◌, Bool, true, false, not, nat_lt, List, [], ◌∷◌, length, map, pos, ◌*ℤ◌, int_lt, int_le, Option, Some, None, is_none, slice_get}
+use Rattle.std.specs.List.{list_all, list_any}
 use Rattle.track_matte.specs.declared.matte.Matte.{Matte as MatteKind}
 use Rattle.track_matte.specs.declared.matte.Matte.TheVariants as matte
 use Rattle.rational_time.specs.Times.{common_base, is_near, comes_before}
 use Rattle.rational_time.specs.declared.time.Time.{Time}
 use Rattle.rational_time.specs.declared.time.TheConstants.{MOST_SECONDS}
 use Rattle.param_stream.specs.Curve.{rises}
-use Rattle.param_stream.specs.declared.key.Keyframe.{Keyframe}
-use Rattle.project_model.specs.Bounds.{most_of, most_frames, greatest_base, greatest_rank, full_opacity, least_position, greatest_position, is_among, is_bit_depth, is_size, is_colour, is_between}
+use Rattle.project_model.specs.Bounds.{most_of, most_frames, greatest_base, greatest_rank, full_opacity, least_position, greatest_position, is_among, is_bit_depth, is_size, is_colour, all_between}
 use Rattle.project_model.specs.Clip.{is_clip_name, are_different, is_long_clip, are_large}
-use Rattle.project_model.specs.Nesting.{reaches, source_rank, stack_rank}
+use Rattle.project_model.specs.EffectRules.{has_params, has_layers, has_sequence}
+use Rattle.project_model.specs.Nesting.{reaches, stack_rank, layer_ranks}
 use Rattle.project_model.specs.Times.{layer_times, times_of}
 use Rattle.project_model.specs.Places.{first_place}
 use Rattle.project_model.specs.declared.clip.ClipUse.{ClipUse}
+use Rattle.project_model.specs.declared.effect.EffectSchema.{EffectSchema}
 use Rattle.project_model.specs.declared.item.Item.{Item}
 use Rattle.project_model.specs.declared.item.Item.TheVariants.{Solid as SolidItem, Clip as ClipItem, Comp as CompItem}
 use Rattle.project_model.specs.declared.plain.PlainLayer.{PlainLayer}
@@ -21,7 +22,7 @@ use Rattle.project_model.specs.declared.plain.PlainComp.{PlainComp}
 use Rattle.project_model.specs.declared.plain.PlainProject.{PlainProject}
 use Rattle.project_model.specs.declared.place.Place.{Place}
 use Rattle.project_model.specs.declared.rule.Rule.{Rule}
-use Rattle.project_model.specs.declared.rule.Rule.TheVariants.{Root, ClipName, ClipNames, Size, ClipDepth, Frames, FrameValue, Near, Length, Base, ClipBytes, Solid, ClipSource, CompSource, Nesting, Mode, Matte, MatteLayer, Span, Rising, Range, Rank}
+use Rattle.project_model.specs.declared.rule.Rule.TheVariants.{Root, ClipName, ClipNames, Size, ClipDepth, Frames, FrameValue, Near, Length, Base, ClipBytes, Solid, ClipSource, CompSource, Nesting, Mode, Matte, MatteLayer, Span, Rising, Range, Params, EffectLayers, Sequence, Rank}
 
 abbrev pub number_of : Rule → ℕ
 number_of Root = 16
@@ -45,13 +46,17 @@ number_of MatteLayer = 33
 number_of Span = 34
 number_of Rising = 35
 number_of Range = 36
+number_of Params = 37
+number_of EffectLayers = 38
+number_of Sequence = 39
 number_of Rank = 40
 
 -- all of them, in the order of their numbers
 abbrev pub rules : List Rule
 rules =
     Root ∷ ClipName ∷ ClipNames ∷ Size ∷ ClipDepth ∷ Frames ∷ FrameValue ∷ Near ∷ Length ∷ Base ∷ ClipBytes ∷ Solid ∷ ClipSource
-    ∷ CompSource ∷ Nesting ∷ Mode ∷ Matte ∷ MatteLayer ∷ Span ∷ Rising ∷ Range ∷ Rank ∷ []
+    ∷ CompSource ∷ Nesting ∷ Mode ∷ Matte ∷ MatteLayer ∷ Span ∷ Rising ∷ Range ∷ Params ∷ EffectLayers
+    ∷ Sequence ∷ Rank ∷ []
 
 -- a solid is of a size and a colour that it may have
 abbrev pub is_solid : ℕ → Item → Bool
@@ -105,9 +110,10 @@ abbrev pub begins_in_time : PlainComp → Time → Option Time → Bool
 begins_in_time comp begin None = is_within_length begin comp
 begins_in_time comp begin (Some end) = not (comes_before end begin)
 
--- each value of the stream is from the least to the most
-abbrev pub all_between : ℤ → ℤ → List Keyframe → Bool
-all_between least most keys = list_all (λ key. is_between least most key.value) keys
+-- the times of each stream of the layer rise
+abbrev pub are_rising : PlainLayer → Bool
+are_rising layer =
+    rises layer.opacity && rises layer.x && rises layer.y && list_all (λ fx. list_all rises fx.params) layer.effects
 
 -- what breaks a rule in the clips
 abbrev pub break_clips : List ClipUse → Rule → Bool
@@ -138,25 +144,29 @@ breaks_comp project Length index comp = is_too_long comp
 breaks_comp project Nesting index comp = reaches project index index
 breaks_comp project _ index comp = false
 
--- what breaks it in a layer, which has this index in the composition
-abbrev pub breaks_layer : PlainProject → Rule → PlainComp → ℕ → PlainLayer → Bool
-breaks_layer project Near comp index layer = not (list_all is_near (layer_times layer))
-breaks_layer project Solid comp index layer = not (is_solid (most_of project.depth) layer.source)
-breaks_layer project ClipSource comp index layer = not (is_clip_of (length project.clips) layer.source)
-breaks_layer project CompSource comp index layer = not (is_comp_of (length project.comps) layer.source)
-breaks_layer project Mode comp index layer = is_none layer.mode
-breaks_layer project Matte comp index layer = is_none layer.matte
-breaks_layer project MatteLayer comp index layer = has_matte layer && not (has_matte_layer comp index)
-breaks_layer project Span comp index layer = not (begins_in_time comp layer.in_point layer.out_point)
-breaks_layer project Rising comp index layer = not (rises layer.opacity && rises layer.x && rises layer.y)
-breaks_layer project Range comp index layer =
+-- what breaks it in a layer, which has this index in the composition, where the effects are those of a set with these schemas
+abbrev pub breaks_layer : List EffectSchema → PlainProject → Rule → PlainComp → ℕ → PlainLayer → Bool
+breaks_layer schemas project Near comp index layer = not (list_all is_near (layer_times layer))
+breaks_layer schemas project Solid comp index layer = not (is_solid (most_of project.depth) layer.source)
+breaks_layer schemas project ClipSource comp index layer = not (is_clip_of (length project.clips) layer.source)
+breaks_layer schemas project CompSource comp index layer = not (is_comp_of (length project.comps) layer.source)
+breaks_layer schemas project Mode comp index layer = is_none layer.mode
+breaks_layer schemas project Matte comp index layer = is_none layer.matte
+breaks_layer schemas project MatteLayer comp index layer = has_matte layer && not (has_matte_layer comp index)
+breaks_layer schemas project Span comp index layer = not (begins_in_time comp layer.in_point layer.out_point)
+breaks_layer schemas project Rising comp index layer = not (are_rising layer)
+breaks_layer schemas project Range comp index layer =
     not (all_between (pos 0) full_opacity layer.opacity
     && all_between least_position greatest_position layer.x
     && all_between least_position greatest_position layer.y)
-breaks_layer project Rank comp index layer = nat_lt greatest_rank (source_rank (stack_rank project) layer.source)
-breaks_layer project _ comp index layer = false
+breaks_layer schemas project Params comp index layer = not (list_all (has_params schemas) layer.effects)
+breaks_layer schemas project EffectLayers comp index layer = not (list_all (has_layers schemas (length comp.layers)) layer.effects)
+breaks_layer schemas project Sequence comp index layer = not (list_all (has_sequence schemas) layer.effects)
+breaks_layer schemas project Rank comp index layer =
+    list_any (nat_lt greatest_rank) (layer_ranks (stack_rank project) comp.layers layer)
+breaks_layer schemas project _ comp index layer = false
 
 -- the first place where the rule is broken
-abbrev pub place_of : PlainProject → Rule → Option Place
-place_of project rule =
-    first_place (λ comp. comp.layers) (breaks_project project rule) (breaks_comp project rule) (breaks_layer project rule) project.comps
+abbrev pub place_of : List EffectSchema → PlainProject → Rule → Option Place
+place_of schemas project rule =
+    first_place (λ comp. comp.layers) (breaks_project project rule) (breaks_comp project rule) (breaks_layer schemas project rule) project.comps

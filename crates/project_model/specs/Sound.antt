@@ -10,6 +10,7 @@ use Rattle.project_model.specs.Nesting.{IsAcyclic}
 use Rattle.project_model.specs.Plain.{plain_of}
 use Rattle.project_model.specs.Times.{times_of}
 use Rattle.project_model.specs.declared.clip.ClipUse.{ClipUse}
+use Rattle.project_model.specs.declared.effect.FxUse.{FxUse}
 use Rattle.project_model.specs.declared.item.Item.{Item}
 use Rattle.project_model.specs.declared.item.Item.TheVariants.{Solid as SolidItem, Clip as ClipItem, Comp as CompItem}
 use Rattle.project_model.specs.declared.layer.Layer.{Layer}
@@ -59,11 +60,17 @@ pub record IsMadeWith (base : ℕ) (least most : ℤ) (curve : Curve) : Type 0 w
   pub some : 1 ≤ length curve.keys
   pub within : All (λ key. IsBetween least most key.value) curve.keys
 
+-- the streams of an effect were made with this base; the range of its values is its kind's
+pub record IsMadeFx (base : ℕ) (fx : FxUse) : Type 0 where
+  pub base_is : All (λ curve. curve.base ≡ base) fx.params
+  pub some : All (λ curve. 1 ≤ length curve.keys) fx.params
+
 -- its streams were made so
 pub record IsMadeLayer (base : ℕ) (layer : Layer) : Type 0 where
   pub opacity : IsMadeWith base (pos 0) full_opacity layer.opacity
   pub x : IsMadeWith base least_position greatest_position layer.x
   pub y : IsMadeWith base least_position greatest_position layer.y
+  pub effects : All (IsMadeFx base) layer.effects
 
 pub record IsSoundLayer (depth base clips comps : ℕ) (layer : Layer) : Type 0 where
   pub source : IsSoundItem (most_of depth) clips comps layer.source

@@ -26,6 +26,7 @@ two_pixel_project = record {
       opacity = constant (pos 10000);
       x = constant (pos 0);
       y = constant (pos 0);
+      effects = [];
     } ∷ [];
   } ∷ [];
 }

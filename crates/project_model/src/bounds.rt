@@ -1,7 +1,9 @@
 //! The bounds of a project's parts, this project's own, and the numbers that keep them.
 
 ghost use Rattle.std.specs.Prelude.{◌≡◌};
-ghost use Rattle.project_model.specs.Bounds.{is_bit_depth, most_of, is_among, is_size, is_colour, is_between};
+ghost use Rattle.project_model.specs.Bounds.{is_bit_depth, most_of, is_among, is_size, is_colour, is_between, all_between};
+
+use param_stream::Keyframe;
 
 /// The most clips of a project.
 pub const MOST_CLIPS: u32 = 64;
@@ -26,6 +28,9 @@ pub const MOST_LAYERS: u32 = 128;
 
 /// The most layers of a project in all.
 pub const MOST_LAYERS_IN_ALL: u32 = 1024;
+
+/// The most effects of a layer.
+pub const MOST_EFFECTS: u32 = 8;
 
 /// The most keyframes of a stream.
 pub const MOST_KEYS: u32 = 4096;
@@ -100,4 +105,11 @@ pub fn is_between(least: i64, most: i64, value: i64) -> bool
     ensures { result ≡ is_between least most value }
 {
     least <= value && value <= most
+}
+
+/// Whether each value of the stream is from the least to the most.
+pub fn all_between(least: i64, most: i64, keys: &[Keyframe]) -> bool
+    ensures { result ≡ all_between least most keys.now }
+{
+    keys.iter().all(|key| is_between(least, most, key.value))
 }

@@ -1,19 +1,21 @@
 //! What breaks a rule, at each kind of place.
 
-ghost use Rattle.std.specs.Prelude.{◌≡◌, ◌*◌, pos, ◌*ℤ◌, int_lt, option_to_list};
-ghost use Rattle.std.specs.List.{list_all};
+ghost use Rattle.std.specs.Prelude.{◌≡◌, ◌≤◌, ◌*◌, length, pos, ◌*ℤ◌, int_lt, option_to_list};
+ghost use Rattle.std.specs.List.{list_all, flat_map};
 ghost use Rattle.rational_time.specs.Times.{is_near};
-ghost use Rattle.project_model.specs.Times.{key_times, layer_times};
-ghost use Rattle.project_model.specs.Rules.{breaks_comp, breaks_layer, is_solid, is_clip_of, is_comp_of, has_matte, has_matte_layer, is_within_length, begins_in_time, all_between, is_too_long};
+ghost use Rattle.project_model.specs.Bounds.{most_effects};
+ghost use Rattle.project_model.specs.Times.{key_times, fx_times, layer_times};
+ghost use Rattle.project_model.specs.Rules.{breaks_comp, breaks_layer, is_solid, is_clip_of, is_comp_of, has_matte, has_matte_layer, is_within_length, begins_in_time, is_too_long};
 ghost use Rattle.project_model.specs.Form.{IsFormed};
 ghost use Rattle.project_model.specs.Known.{IsKnown};
 
 use crate::bounds::{
-    FULL_OPACITY, GREATEST_POSITION, GREATEST_RANK, LEAST_POSITION, MOST_FRAMES, is_among,
-    is_between, is_colour, is_size, most_of,
+    FULL_OPACITY, GREATEST_POSITION, GREATEST_RANK, LEAST_POSITION, MOST_FRAMES, all_between,
+    is_among, is_colour, is_size, most_of,
 };
+use crate::effect_rules::{are_rising, have_layers, have_params, have_sequences};
 use crate::graph::Nesting;
-use crate::{Item, PlainComp, PlainLayer, PlainProject, Rule};
+use crate::{EffectSchema, Item, PlainComp, PlainFx, PlainLayer, PlainProject, Rule};
 use param_stream::{Keyframe, rises};
 use rational_time::{MOST_SECONDS, Time, comes_before, is_near};
 use track_matte::Matte;
@@ -42,6 +44,7 @@ pub fn breaks_comp(
 
 /// Whether the rule is broken in the layer of the composition, which has this index in it.
 pub fn breaks_layer(
+    schemas: &[EffectSchema],
     project: &PlainProject,
     nesting: &Nesting,
     rule: Rule,
@@ -51,7 +54,8 @@ pub fn breaks_layer(
 ) -> bool
     requires known { IsKnown project.now nesting.now.loops.items nesting.now.ranks.items }
     requires formed { IsFormed project.now }
-    ensures { result ≡ breaks_layer project.now rule comp.now index layer.now }
+    requires few_effects { length layer.now.effects ≤ most_effects }
+    ensures { result ≡ breaks_layer schemas.now project.now rule comp.now index layer.now }
 {
     match rule {
         Rule::Near => !is_near_layer(layer),
@@ -65,14 +69,24 @@ pub fn breaks_layer(
         Rule::Rising => {
             !(rises(layer.opacity.as_slice())
                 && rises(layer.x.as_slice())
-                && rises(layer.y.as_slice()))
+                && rises(layer.y.as_slice())
+                && are_rising(layer.effects.as_slice()))
         }
         Rule::Range => {
             !(all_between(0, FULL_OPACITY, layer.opacity.as_slice())
                 && all_between(LEAST_POSITION, GREATEST_POSITION, layer.x.as_slice())
                 && all_between(LEAST_POSITION, GREATEST_POSITION, layer.y.as_slice()))
         }
-        Rule::Rank => nesting.source_rank(layer.source) > GREATEST_RANK,
+        Rule::Params => !have_params(schemas, layer.effects.as_slice()),
+        Rule::EffectLayers => {
+            !have_layers(
+                schemas,
+                comp.layers.as_slice().len(),
+                layer.effects.as_slice(),
+            )
+        }
+        Rule::Sequence => !have_sequences(schemas, layer.effects.as_slice()),
+        Rule::Rank => nesting.last_rank(comp.layers.as_slice(), layer) > GREATEST_RANK,
         _ => false,
     }
 }
@@ -108,6 +122,22 @@ fn is_near_layer(layer: &PlainLayer) -> bool
         && are_near(layer.opacity.as_slice())
         && are_near(layer.x.as_slice())
         && are_near(layer.y.as_slice())
+        && are_near_effects(layer.effects.as_slice())
+}
+
+// Whether each time of the effects is.
+fn are_near_effects(effects: &[PlainFx]) -> bool
+    ensures { result ≡ list_all is_near (flat_map fx_times effects.now) }
+{
+    effects.iter().all(|fx| is_near_fx(fx))
+}
+
+// Whether each time of the effect is.
+fn is_near_fx(fx: &PlainFx) -> bool
+    ensures { result ≡ list_all is_near (fx_times fx.now) }
+{
+    let params = fx.params.as_slice();
+    params.iter().all(|keys| are_near(keys.as_slice()))
 }
 
 // Whether the end is near enough to zero, where there is one.
@@ -203,11 +233,4 @@ fn is_within_length(time: Time, comp: &PlainComp) -> bool
 {
     let begin = i128::from(product(time.value, comp.frame.scale));
     begin <= i128::from(product(comp.frame.value, comp.frames)) * i128::from(time.scale)
-}
-
-// Whether each value is from the least to the most.
-fn all_between(least: i64, most: i64, keys: &[Keyframe]) -> bool
-    ensures { result ≡ all_between least most keys.now }
-{
-    keys.iter().all(|key| is_between(least, most, key.value))
 }

@@ -2,11 +2,14 @@
 
 ghost use Rattle.std.specs.Prelude.{◌≡◌, ◌≤◌, length, map, IfOk};
 ghost use Rattle.std.specs.List.{All};
-ghost use Rattle.project_model.specs.Form.{IsFormed, IsFormedComp, IsFormedLayer};
-ghost use Rattle.project_model.specs.Plain.{plain_layer, plain_comp, plain_of};
-ghost use Rattle.project_model.specs.Times.{layer_times, comp_times};
+ghost use Rattle.project_model.specs.Bounds.{most_keys};
+ghost use Rattle.project_model.specs.Form.{IsKeyCount, IsFormed, IsFormedComp, IsFormedLayer, IsFormedFx};
+ghost use Rattle.project_model.specs.Plain.{plain_fx, plain_layer, plain_comp, plain_of};
+ghost use Rattle.project_model.specs.Times.{key_times, fx_times, layer_times, comp_times};
 
-use crate::{ClipUse, Collection, Comp, Layer, PlainComp, PlainLayer, PlainProject, Project};
+use crate::{
+    ClipUse, Collection, Comp, FxUse, Layer, PlainComp, PlainFx, PlainLayer, PlainProject, Project,
+};
 use host_io::Memory;
 use param_stream::{Keyframe, Stream};
 use std::alloc::Global;
@@ -85,7 +88,54 @@ fn plain_layer(alloc: Global, layer: &Layer) -> Result<PlainLayer, Memory>
         opacity: plain_keys(alloc, &layer.opacity)?,
         x: plain_keys(alloc, &layer.x)?,
         y: plain_keys(alloc, &layer.y)?,
+        effects: plain_effects(alloc, layer.effects.as_slice())?,
     })
+}
+
+// Those of the effects.
+fn plain_effects(alloc: Global, effects: &[FxUse]) -> Result<Collection<PlainFx>, Memory>
+    requires { All (λ fx. All (λ curve. length curve.keys ≤ most_keys) fx.params) effects.now }
+    ensures plain { IfOk result (λ plain. plain ≡ map plain_fx effects.now) }
+    ensures formed { IfOk result (All IsFormedFx) }
+    ensures scaled { IfOk result (All (λ fx. All (λ time. 1 ≤ time.scale) (fx_times fx))) }
+{
+    let mut plain = Vec::new(alloc);
+    for fx in effects {
+        plain.push(plain_fx(alloc, fx)?)?;
+    }
+    Ok(Collection::from_vec(plain))
+}
+
+// Those of the effect.
+fn plain_fx(alloc: Global, fx: &FxUse) -> Result<PlainFx, Memory>
+    requires { All (λ curve. length curve.keys ≤ most_keys) fx.now.params }
+    ensures plain { IfOk result (λ plain. plain ≡ plain_fx fx.now) }
+    ensures formed { IfOk result IsFormedFx }
+    ensures scaled { IfOk result (λ plain. All (λ time. 1 ≤ time.scale) (fx_times plain)) }
+{
+    let params = plain_params(alloc, fx.params.as_slice())?;
+    let layers = fx.layers.as_slice().to_vec(alloc)?;
+    let sequence = fx.sequence.as_slice().to_vec(alloc)?;
+    Ok(PlainFx {
+        kind: fx.kind,
+        params: Collection::from_vec(params),
+        layers: Collection::from_vec(layers),
+        sequence: Some(Collection::from_vec(sequence)),
+    })
+}
+
+// The keyframes of the streams.
+fn plain_params(alloc: Global, params: &[Stream]) -> Result<Vec<Collection<Keyframe>>, Memory>
+    requires { All (λ curve. length curve.keys ≤ most_keys) params.now }
+    ensures plain { IfOk result (λ plain. plain.items ≡ map (λ curve. curve.keys) params.now) }
+    ensures formed { IfOk result (λ plain. All IsKeyCount plain.items) }
+    ensures scaled { IfOk result (λ plain. All (λ keys. All (λ time. 1 ≤ time.scale) (key_times keys)) plain.items) }
+{
+    let mut plain = Vec::new(alloc);
+    for stream in params {
+        plain.push(plain_keys(alloc, stream)?)?;
+    }
+    Ok(plain)
 }
 
 // The keyframes of the stream.

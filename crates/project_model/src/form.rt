@@ -3,13 +3,13 @@
 ghost use Rattle.std.specs.Prelude.{◌≡◌, ◌↔◌, IsTrue, nat_le, length, map, option_to_list};
 ghost use Rattle.std.specs.List.{list_all, flat_map};
 ghost use Rattle.project_model.specs.Bounds.{is_among, most_clips, most_comps, most_layers_in_all};
-ghost use Rattle.project_model.specs.Form.{IsFormed, is_formed, is_key_count, is_formed_layer, is_formed_comp, is_scaled, plain_layer_count};
-ghost use Rattle.project_model.specs.Times.{key_times, layer_times, comp_times, times_of};
+ghost use Rattle.project_model.specs.Form.{IsFormed, is_formed, is_key_count, is_formed_fx, is_formed_layer, is_formed_comp, is_scaled, plain_layer_count};
+ghost use Rattle.project_model.specs.Times.{key_times, fx_times, layer_times, comp_times, times_of};
 
 use crate::bounds::{
-    MOST_CLIPS, MOST_COMPS, MOST_KEYS, MOST_LAYERS, MOST_LAYERS_IN_ALL, is_bit_depth,
+    MOST_CLIPS, MOST_COMPS, MOST_EFFECTS, MOST_KEYS, MOST_LAYERS, MOST_LAYERS_IN_ALL, is_bit_depth,
 };
-use crate::{ClipUse, PlainComp, PlainLayer, PlainProject};
+use crate::{ClipUse, PlainComp, PlainFx, PlainLayer, PlainProject};
 use param_stream::Keyframe;
 use rational_time::Time;
 
@@ -94,6 +94,23 @@ fn is_formed_layer(layer: &PlainLayer) -> bool
     is_key_count(layer.opacity.as_slice())
         && is_key_count(layer.x.as_slice())
         && is_key_count(layer.y.as_slice())
+        && layer.effects.as_slice().len() <= MOST_EFFECTS as usize
+        && are_formed_effects(layer.effects.as_slice())
+}
+
+// Whether each parameter of the effects has.
+fn are_formed_effects(effects: &[PlainFx]) -> bool
+    ensures { result ≡ list_all is_formed_fx effects.now }
+{
+    effects.iter().all(|fx| is_formed_fx(fx))
+}
+
+// Whether each parameter of the effect has.
+fn is_formed_fx(fx: &PlainFx) -> bool
+    ensures { result ≡ is_formed_fx fx.now }
+{
+    let params = fx.params.as_slice();
+    params.iter().all(|keys| is_key_count(keys.as_slice()))
 }
 
 // Whether a stream may have so many keyframes.
@@ -149,6 +166,22 @@ fn is_scaled_layer(layer: &PlainLayer) -> bool
         && are_scaled(layer.opacity.as_slice())
         && are_scaled(layer.x.as_slice())
         && are_scaled(layer.y.as_slice())
+        && are_scaled_effects(layer.effects.as_slice())
+}
+
+// Whether none of the effects' times is.
+fn are_scaled_effects(effects: &[PlainFx]) -> bool
+    ensures { result ≡ list_all is_scaled (flat_map fx_times effects.now) }
+{
+    effects.iter().all(|fx| is_scaled_fx(fx))
+}
+
+// Whether none of the effect's times is.
+fn is_scaled_fx(fx: &PlainFx) -> bool
+    ensures { result ≡ list_all is_scaled (fx_times fx.now) }
+{
+    let params = fx.params.as_slice();
+    params.iter().all(|keys| are_scaled(keys.as_slice()))
 }
 
 // Whether that of the end isn't, where there is one.

@@ -1,11 +1,13 @@
 //! Which compositions reach themselves through those that are nested, and the ranks of their stacks.
 
 ghost use Rattle.std.specs.Prelude.{◌≡◌, ℕ, ◌<◌, ◌≤◌, ◌^◌, false, map, length, slice_index_or, IfOk};
-ghost use Rattle.std.specs.List.{range_with_len};
-ghost use Rattle.project_model.specs.Bounds.{most_comps};
+ghost use Rattle.std.specs.List.{All, range_with_len};
+ghost use Rattle.project_model.specs.Bounds.{most_comps, most_effects};
+ghost use Rattle.project_model.specs.Form.{IsFormed, IsFormedComp};
 ghost use Rattle.project_model.specs.Known.{IsKnown, Tells};
-ghost use Rattle.project_model.specs.Nesting.{lead_to, nests_or_leads, reaches, source_rank, rank_over, stack_rank};
+ghost use Rattle.project_model.specs.Nesting.{lead_to, nests_or_leads, reaches, last_rank, rank_over, stack_rank};
 
+use crate::node_ranks::{last_rank, rank_over};
 use crate::{Item, PlainComp, PlainLayer, PlainProject};
 use host_io::Memory;
 use std::alloc::Global;
@@ -25,18 +27,19 @@ impl Nesting {
         self.loops.get(index).copied().unwrap_or(false)
     }
 
-    /// The rank of a source.
-    pub fn source_rank(&self, source: Item) -> u32
-        requires { (index : ℕ) → slice_index_or self.now.ranks.items index 1 < 2 ^ 16 }
-        ensures { result ≡ source_rank (λ index. slice_index_or self.now.ranks.items index 1) source }
+    /// The rank of the last node of a layer among these.
+    pub fn last_rank(&self, layers: &[PlainLayer], layer: &PlainLayer) -> u32
+        requires small { (index : ℕ) → slice_index_or self.now.ranks.items index 1 < 2 ^ 16 }
+        requires few { length layer.now.effects ≤ most_effects }
+        ensures { result ≡ last_rank (λ index. slice_index_or self.now.ranks.items index 1) layers.now layer.now }
     {
-        source_rank(source, self.ranks.as_slice())
+        last_rank(layers, layer, self.ranks.as_slice())
     }
 }
 
 /// Those of the project's compositions.
 pub fn nesting_of(alloc: Global, project: &PlainProject) -> Result<Nesting, Memory>
-    requires { length project.now.comps ≤ most_comps }
+    requires { IsFormed project.now }
     ensures known { IfOk result (λ n. IsKnown project.now n.loops.items n.ranks.items) }
     ensures ranks { IfOk result (λ n. n.ranks.items ≡ map (stack_rank project.now) (range_with_len 0 (length project.now.comps))) }
 {
@@ -114,7 +117,7 @@ fn is_leading(leading: &[bool], index: u32) -> bool
 
 // The rank of each composition's stack.
 fn stack_ranks(alloc: Global, project: &PlainProject) -> Result<Vec<u32>, Memory>
-    requires { length project.now.comps ≤ most_comps }
+    requires { IsFormed project.now }
     ensures told { IfOk result (λ ranks. Tells ranks.items 1 (stack_rank project.now)) }
     ensures items { IfOk result (λ ranks. ranks.items ≡ map (stack_rank project.now) (range_with_len 0 (length project.now.comps))) }
 {
@@ -128,7 +131,8 @@ fn stack_ranks(alloc: Global, project: &PlainProject) -> Result<Vec<u32>, Memory
 
 // The rank of each composition's stack, where those that are nested have these.
 fn ranks_of_one_more(alloc: Global, comps: &[PlainComp], ranks: &[u32]) -> Result<Vec<u32>, Memory>
-    requires { (index : ℕ) → slice_index_or ranks.now index 1 < 2 ^ 16 }
+    requires small { (index : ℕ) → slice_index_or ranks.now index 1 < 2 ^ 16 }
+    requires formed { All IsFormedComp comps.now }
     ensures { IfOk result (λ more. more.items
         ≡ map (λ comp. rank_over (λ index. slice_index_or ranks.now index 1) comp.layers) comps.now) }
 {
@@ -137,35 +141,4 @@ fn ranks_of_one_more(alloc: Global, comps: &[PlainComp], ranks: &[u32]) -> Resul
         more.push(rank_over(comp.layers.as_slice(), ranks))?;
     }
     Ok(more)
-}
-
-// The rank of the stack of these layers.
-fn rank_over(layers: &[PlainLayer], ranks: &[u32]) -> u32
-    requires { (index : ℕ) → slice_index_or ranks.now index 1 < 2 ^ 16 }
-    ensures { result ≡ rank_over (λ index. slice_index_or ranks.now index 1) layers.now }
-{
-    let mut greatest = 0;
-    for layer in layers {
-        greatest = greatest.max(source_rank(layer.source, ranks));
-    }
-    1 + greatest
-}
-
-/// The rank of a source, where the stacks of compositions have these.
-pub fn source_rank(source: Item, ranks: &[u32]) -> u32
-    requires { (index : ℕ) → slice_index_or ranks.now index 1 < 2 ^ 16 }
-    ensures value { result ≡ source_rank (λ index. slice_index_or ranks.now index 1) source }
-    ensures bound { result ≤ 2 ^ 16 }
-{
-    match source {
-        Item::Comp(nested) => 1 + rank_at(ranks, nested),
-        _ => 0,
-    }
-}
-
-// What the list says of the composition; one that is not there has no layers.
-fn rank_at(ranks: &[u32], index: u32) -> u32
-    ensures { result ≡ slice_index_or ranks.now index 1 }
-{
-    ranks.get(index as usize).copied().unwrap_or(1)
 }

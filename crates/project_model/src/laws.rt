@@ -1,7 +1,8 @@
 //! Laws above the definitions: each function's contract is one, and calling it does nothing.
 
 ghost use Rattle.project_model.specs.Laws.{RulesAreKept, BreachIsFirst, SoundIsBased, PlaceIsFirst, BoundsInNumbers};
-ghost use Rattle.project_model.specs.Nesting.{PathsAreFound, RanksAreAbove, TableHasRanks};
+ghost use Rattle.project_model.specs.Nesting.{PathsAreFound};
+ghost use Rattle.project_model.specs.Nodes.{RanksAreAbove, TableHasRanks};
 
 /// No rule is broken exactly where each has no place at which it is.
 pub fn rules_are_kept()
@@ -35,8 +36,8 @@ pub fn paths_are_found()
     ensures { PathsAreFound }
 {}
 
-/// Where no composition reaches itself, the rank of a stack is above those of its layers' sources, and that of a source above
-/// that of the stack it shows.
+/// Where no composition reaches itself, the rank of each node is above those of all that it is drawn from: a stack above its layers'
+/// last nodes, an effect above its input and the sources of the layers that it names, and a source above the stack it shows.
 pub fn ranks_are_above()
     ensures { RanksAreAbove }
 {}

@@ -2,18 +2,19 @@ ghost use Rattle.std.specs.Prelude.{◌≡◌, ◌≤◌, ◌&&◌, nat_le, None
 ghost use Rattle.std.specs.List.{All, list_all};
 ghost use Rattle.rational_time.specs.Times.{common_base};
 ghost use Rattle.project_model.specs.Bounds.{greatest_base};
-ghost use Rattle.project_model.specs.Broken.{breach_of};
+ghost use Rattle.project_model.specs.Effects.{AreSchemas};
 ghost use Rattle.project_model.specs.Sound.{IsSound};
+ghost use Rattle.project_model.specs.Uses.{AreUses};
 ghost use Rattle.project_model.specs.Plain.{plain_of};
 ghost use Rattle.project_model.specs.Nesting.{ranks_of};
-ghost use Rattle.project_model.specs.Checked.{breach_in, is_based_on, layer_is_based, comp_of, layer_of, error_of, Refuses};
+ghost use Rattle.project_model.specs.Checked.{breach_in, is_based_on, layer_is_based, fx_is_based, comp_of, layer_of, error_of, Refuses};
 
 use crate::copy::plain_of;
 use crate::graph::nesting_of;
 use crate::ranks::ranks_of;
 use crate::search::first_breach;
 use crate::times::times_of;
-use crate::{Breach, Comp, Layer, Place, Project, Ranks};
+use crate::{Breach, Comp, EffectSchema, FxUse, Layer, Place, Project, Ranks};
 use rational_time::{Time, TimeBase, common_base};
 use std::alloc::Global;
 use thiserror::Error;
@@ -48,13 +49,19 @@ pub fn error_of(breach: Breach) -> CheckError
     }
 }
 
-/// The ranks of the project's nodes, where it keeps the rules from 16 on (see [`crate::Rule`]). Rule 25 asks here that `base` is the least
-/// common multiple of all scales, and that each stream was made with it.
-pub fn check(alloc: Global, project: &Project) -> Result<Ranks, CheckError>
-    ensures passed { IfOk result (λ _. breach_in project.now ≡ None) }
+/// The ranks of the project's nodes, where it keeps the rules from 16 on (see [`crate::Rule`]) and its effects are those of a set with
+/// these schemas. Rule 25 asks here that `base` is the least common multiple of all scales, and that each stream was made with it.
+pub fn check(
+    alloc: Global,
+    project: &Project,
+    schemas: &[EffectSchema],
+) -> Result<Ranks, CheckError>
+    requires { AreSchemas schemas.now }
+    ensures passed { IfOk result (λ _. breach_in schemas.now project.now ≡ None) }
     ensures sound { IfOk result (λ _. IsSound project.now) }
+    ensures fits { IfOk result (λ _. AreUses schemas.now project.now) }
     ensures ranked { IfOk result (λ ranks. ranks ≡ ranks_of (plain_of project.now)) }
-    ensures refused { IfErr result (λ e. Refuses e (breach_in project.now)) }
+    ensures refused { IfErr result (λ e. Refuses e (breach_in schemas.now project.now)) }
 {
     let Ok(plain) = plain_of(alloc, project) else {
         return Err(CheckError::Memory);
@@ -66,7 +73,7 @@ pub fn check(alloc: Global, project: &Project) -> Result<Ranks, CheckError>
         return Err(CheckError::Memory);
     };
     let is_based = keeps_base(&times, project);
-    if let Some(breach) = first_breach(&plain, is_based, &nesting) {
+    if let Some(breach) = first_breach(schemas, &plain, is_based, &nesting) {
         return Err(error_of(breach));
     }
     let Ok(ranks) = ranks_of(alloc, &plain, nesting.ranks) else {
@@ -110,4 +117,22 @@ fn layer_made_with(base: TimeBase, layer: &Layer) -> bool
     layer.opacity.base().ticks == base.ticks
         && layer.x.base().ticks == base.ticks
         && layer.y.base().ticks == base.ticks
+        && effects_made_with(base, layer.effects.as_slice())
+}
+
+// Whether those of the effects were.
+fn effects_made_with(base: TimeBase, effects: &[FxUse]) -> bool
+    ensures { result ≡ list_all (fx_is_based base.ticks) effects.now }
+{
+    effects.iter().all(|fx| fx_made_with(base, fx))
+}
+
+// Whether those of the effect were.
+fn fx_made_with(base: TimeBase, fx: &FxUse) -> bool
+    ensures { result ≡ fx_is_based base.ticks fx.now }
+{
+    let params = fx.params.as_slice();
+    params
+        .iter()
+        .all(|stream| stream.base().ticks == base.ticks)
 }

@@ -24,7 +24,8 @@ pub struct PlainComp {
     pub layers: Collection<PlainLayer>,
 }
 
-/// A layer in plain parts. A stream is its keyframes; a mode or a matte is none where what is written names none.
+/// A layer in plain parts. A stream is its keyframes; a mode or a matte is none where what is written names none. Effects apply from
+/// the first to the last.
 #[derive(Debug, Drop)]
 pub struct PlainLayer {
     pub source: Item,
@@ -36,4 +37,15 @@ pub struct PlainLayer {
     pub opacity: Collection<Keyframe>,
     pub x: Collection<Keyframe>,
     pub y: Collection<Keyframe>,
+    pub effects: Collection<PlainFx>,
+}
+
+/// A use of an effect in plain parts: its kind, the keyframes of each parameter, the index of a layer of the same composition for
+/// each layer parameter, and the bytes of its sequence data, which are none where what is written is no hex text.
+#[derive(Debug, Drop)]
+pub struct PlainFx {
+    pub kind: u16,
+    pub params: Collection<Collection<Keyframe>>,
+    pub layers: Collection<u32>,
+    pub sequence: Option<Collection<u8>>,
 }

@@ -1,7 +1,8 @@
 ghost use Rattle.std.specs.Prelude.{◌≡◌};
 ghost use Rattle.project_model.specs.Rules.{number_of};
 
-/// The rules on a project's numbers, by their numbers. They are this project's own.
+/// The rules on a project's numbers, by their numbers. They are this project's own. Each speaks of what all before it let through.
+/// Those from 37 to 39 read the schemas of the effect set.
 #[derive(Clone, Copy, Debug, PartialEq, Eq)]
 pub enum Rule {
     /// 16: `root` names a composition.
@@ -19,11 +20,12 @@ pub enum Rule {
     Frames,
     /// 22: the value of each frame's length is at least 1.
     FrameValue,
-    /// 23: every time is at most 36,000 seconds from zero.
+    /// 23: every time is at most 36,000 seconds from zero, those of effects' keyframes included.
     Near,
     /// 24: all frames of a clip or composition together last at most 36,000 seconds.
     Length,
-    /// 25: the least common multiple of all scales is at most 2,147,483,647.
+    /// 25: the least common multiple of all scales is at most 2,147,483,647. For a project in hand, its base is that multiple, and each
+    /// stream was made with it, those of effects included.
     Base,
     /// 26: the clips' files have together at most 2,147,483,648 bytes, as they are declared.
     ClipBytes,
@@ -43,17 +45,25 @@ pub enum Rule {
     MatteLayer,
     /// 34: a layer begins no later than it ends, or than its composition ends where it has no end of its own.
     Span,
-    /// 35: the times of a stream's keyframes rise.
+    /// 35: the times of a stream's keyframes rise, in effects too.
     Rising,
     /// 36: opacity is from 0 to 10,000, and positions from -32,768 to 32,767.
     Range,
-    /// 40: the rank of a layer's source is at most 256: 0 for a solid or a clip, else one more than that of the composition's
-    /// stack, which is one more than the greatest rank of its layers' sources, or 1 where it has none.
+    /// 37: an effect's kind is one of the set and may be drawn by several threads, it has as many streams as the kind has parameters,
+    /// and every value is in its parameter's range.
+    Params,
+    /// 38: an effect names as many layers as its kind has layer parameters, each a layer of the same composition, its own allowed.
+    EffectLayers,
+    /// 39: an effect's sequence data has a length that its kind takes: so many units of bytes, and no bytes where a unit has none.
+    Sequence,
+    /// 40: the ranks of a layer's source and of its effects are at most 256. A solid and a clip have rank 0, and a nested composition
+    /// one more than its stack, which is one more than the greatest rank of its layers' last nodes, or 1 where it has no layers. An
+    /// effect has one more than the greatest rank of its input and of the sources of the layers that it names.
     Rank,
 }
 
 /// All rules, in the order of their numbers.
-pub const RULES: [Rule; 22] = [
+pub const RULES: [Rule; 25] = [
     Rule::Root,
     Rule::ClipName,
     Rule::ClipNames,
@@ -75,6 +85,9 @@ pub const RULES: [Rule; 22] = [
     Rule::Span,
     Rule::Rising,
     Rule::Range,
+    Rule::Params,
+    Rule::EffectLayers,
+    Rule::Sequence,
     Rule::Rank,
 ];
 
@@ -105,6 +118,9 @@ impl Rule {
             Rule::Span => 34,
             Rule::Rising => 35,
             Rule::Range => 36,
+            Rule::Params => 37,
+            Rule::EffectLayers => 38,
+            Rule::Sequence => 39,
             Rule::Rank => 40,
         }
     }

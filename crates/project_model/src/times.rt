@@ -1,9 +1,9 @@
 //! All times that a project writes, in order.
 
 ghost use Rattle.std.specs.Prelude.{◌≡◌, ◌++◌, map, flat_map, IfOk, OnOk};
-ghost use Rattle.project_model.specs.Times.{key_times, layer_times, comp_times, times_of};
+ghost use Rattle.project_model.specs.Times.{key_times, fx_times, layer_times, comp_times, times_of};
 
-use crate::{ClipUse, PlainComp, PlainLayer, PlainProject};
+use crate::{ClipUse, Collection, PlainComp, PlainFx, PlainLayer, PlainProject};
 use param_stream::Keyframe;
 use rational_time::Time;
 use std::alloc::{AllocError, Global};
@@ -60,7 +60,28 @@ fn push_layer(times: &mut Vec<Time>, layer: &PlainLayer) -> Result<(), AllocErro
     }
     push_keys(times, layer.opacity.as_slice())?;
     push_keys(times, layer.x.as_slice())?;
-    push_keys(times, layer.y.as_slice())
+    push_keys(times, layer.y.as_slice())?;
+    push_effects(times, layer.effects.as_slice())
+}
+
+// Those of the effects.
+fn push_effects(times: &mut Vec<Time>, effects: &[PlainFx]) -> Result<(), AllocError>
+    ensures { OnOk result (times.new.items ≡ times.old.items ++ flat_map fx_times effects.now) }
+{
+    for fx in effects {
+        push_params(times, fx.params.as_slice())?;
+    }
+    Ok(())
+}
+
+// Those of an effect's parameters.
+fn push_params(times: &mut Vec<Time>, params: &[Collection<Keyframe>]) -> Result<(), AllocError>
+    ensures { OnOk result (times.new.items ≡ times.old.items ++ flat_map key_times params.now) }
+{
+    for keys in params {
+        push_keys(times, keys.as_slice())?;
+    }
+    Ok(())
 }
 
 // Those of the keyframes.

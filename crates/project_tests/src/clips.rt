@@ -1,7 +1,7 @@
 //! Which clips a project may declare. All answers were worked by hand.
 
-use crate::plain::{SOLID, comp, made};
-use project_model::{CheckError, ClipUse, Item, Project, Text, check};
+use crate::plain::{SOLID, checked, comp, made};
+use project_model::{CheckError, ClipUse, Item, Project, Text};
 use rational_time::Time;
 use std::alloc::{AllocError, Global};
 use std::process::Abort;
@@ -128,7 +128,7 @@ fn refuses(rt: &impl Abort, alloc: Global, rows: &[(u8, Declared)]) -> Result<()
 fn keeps(rt: &impl Abort, alloc: Global, rows: &[Declared]) -> Result<(), Fail> {
     for declared in rows {
         let project = beside(alloc, declared)?.map_err(|_| "a project")?;
-        assert_eq!(rt; check(alloc, &project).err(), None, "{}", declared.0);
+        assert_eq!(rt; checked(alloc, &project).err(), None, "{}", declared.0);
     }
     Ok(())
 }
@@ -164,7 +164,7 @@ fn clips_are_named_and_counted(rt: HostRuntime) -> Result<(), Fail> {
     let absent = project_of(alloc, MOST_BYTES, Item::Clip(4))?;
     assert_eq!(rt; absent.err(), Some(broken(28, Some(0), Some(0))));
     let project = project_of(alloc, MOST_BYTES, Item::Clip(3))?.map_err(|_| "a project")?;
-    assert_eq!(rt; check(alloc, &project).err(), None);
+    assert_eq!(rt; checked(alloc, &project).err(), None);
     assert_eq!(rt; project.clips.as_slice().len(), 4);
     Ok(())
 }

@@ -6,11 +6,17 @@ mod bases;
 #[cfg(test)]
 mod clips;
 #[cfg(test)]
+mod effects;
+#[cfg(test)]
+mod fx_ranks;
+#[cfg(test)]
 mod nested;
 #[cfg(test)]
 mod plain;
 #[cfg(test)]
 mod rules;
+#[cfg(test)]
+mod schemas;
 #[cfg(test)]
 mod streams;
 #[cfg(test)]

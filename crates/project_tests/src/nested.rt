@@ -1,7 +1,7 @@
 //! Nested compositions: which projects may have them, and ranks. All answers were worked by hand.
 
-use crate::plain::{SOLID, comp, made};
-use project_model::{CheckError, Item, NodeId, Project, check};
+use crate::plain::{SOLID, checked, comp, made};
+use project_model::{CheckError, Item, NodeId, Project};
 use std::alloc::Global;
 use std::process::Abort;
 use std::test::Fail;
@@ -121,7 +121,7 @@ fn ring(alloc: Global, count: u32) -> Result<Result<Project, CheckError>, Fail> 
 }
 
 fn rank(project: &Project, alloc: Global, node: NodeId) -> Result<u32, Fail> {
-    let ranks = check(alloc, project).map_err(|_| "ranks")?;
+    let ranks = checked(alloc, project).map_err(|_| "ranks")?;
     Ok(ranks.of(node))
 }
 
@@ -170,7 +170,7 @@ const RANKS: &[(NodeId, u32)] = &[
 #[test]
 fn ranks_are_above_what_is_drawn_from(rt: HostRuntime) -> Result<(), Fail> {
     let project = project_of(rt.alloc(), RANKED)?.map_err(|_| "a project")?;
-    let ranks = check(rt.alloc(), &project).map_err(|_| "ranks")?;
+    let ranks = checked(rt.alloc(), &project).map_err(|_| "ranks")?;
     for (node, rank) in RANKS {
         assert_eq!(rt; ranks.of(*node), *rank, "{node:?}");
     }

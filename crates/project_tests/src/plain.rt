@@ -2,7 +2,8 @@
 
 use param_stream::{Ease, Keyframe};
 use project_model::{
-    CheckError, ClipUse, Collection, Item, PlainComp, PlainLayer, PlainProject, Project,
+    CheckError, ClipUse, Collection, Item, PlainComp, PlainLayer, PlainProject, Project, Ranks,
+    check,
 };
 use rational_time::Time;
 use std::alloc::{AllocError, Global};
@@ -29,7 +30,8 @@ fn stream(alloc: Global, value: i64) -> Result<Collection<Keyframe>, AllocError>
     Ok(Collection::from_vec(vec![in alloc; key]?))
 }
 
-fn layer(alloc: Global, source: Item) -> Result<PlainLayer, AllocError> {
+/// A layer that shows this.
+pub fn layer(alloc: Global, source: Item) -> Result<PlainLayer, AllocError> {
     Ok(PlainLayer {
         source,
         start: Time { value: 0, scale: 1 },
@@ -40,6 +42,7 @@ fn layer(alloc: Global, source: Item) -> Result<PlainLayer, AllocError> {
         opacity: stream(alloc, 10000)?,
         x: stream(alloc, 0)?,
         y: stream(alloc, 0)?,
+        effects: Collection::from_vec(Vec::new(alloc)),
     })
 }
 
@@ -49,7 +52,12 @@ pub fn comp(alloc: Global, sources: &[Item]) -> Result<PlainComp, AllocError> {
     for source in sources {
         layers.push(layer(alloc, *source)?)?;
     }
-    Ok(PlainComp {
+    Ok(comp_of(layers))
+}
+
+/// A composition of these layers.
+pub fn comp_of(layers: Vec<PlainLayer>) -> PlainComp {
+    PlainComp {
         width: 4,
         height: 3,
         frame: Time {
@@ -58,23 +66,35 @@ pub fn comp(alloc: Global, sources: &[Item]) -> Result<PlainComp, AllocError> {
         },
         frames: 2,
         layers: Collection::from_vec(layers),
-    })
+    }
 }
 
-/// What becomes of a project of these clips and compositions.
+/// What becomes of a project of these clips and compositions, without effects.
 pub fn made(
     alloc: Global,
     clips: Vec<ClipUse>,
     comps: Vec<PlainComp>,
 ) -> Result<Result<Project, CheckError>, Fail> {
-    let plain = PlainProject {
-        depth: 8,
-        root: 0,
-        clips: Collection::from_vec(clips),
-        comps: Collection::from_vec(comps),
-    };
+    of_parts(
+        alloc,
+        PlainProject {
+            depth: 8,
+            root: 0,
+            clips: Collection::from_vec(clips),
+            comps: Collection::from_vec(comps),
+        },
+    )
+}
+
+/// What becomes of a project of these parts, without effects.
+pub fn of_parts(alloc: Global, plain: PlainProject) -> Result<Result<Project, CheckError>, Fail> {
     if !plain.is_formed() {
         return Err("a form")?;
     }
-    Ok(Project::of_plain(alloc, plain))
+    Ok(Project::of_plain(alloc, plain, &[]))
+}
+
+/// The answer of `check` where there are no effects.
+pub fn checked(alloc: Global, project: &Project) -> Result<Ranks, CheckError> {
+    check(alloc, project, &[])
 }

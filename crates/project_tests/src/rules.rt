@@ -1,10 +1,9 @@
 //! The rules on the numbers of compositions, through `Project::of_plain` and `check`, with places in a second composition. All
 //! answers were worked by hand.
 
+use crate::plain::{checked, of_parts};
 use param_stream::{Ease, Keyframe};
-use project_model::{
-    CheckError, Collection, Item, PlainComp, PlainLayer, PlainProject, Project, check,
-};
+use project_model::{CheckError, Collection, Item, PlainComp, PlainLayer, PlainProject, Project};
 use rational_time::Time;
 use std::alloc::{AllocError, Global};
 use std::process::Abort;
@@ -79,6 +78,7 @@ fn layer(alloc: Global, sample: Sample) -> Result<PlainLayer, AllocError> {
         opacity: Collection::from_vec(keys),
         x: Collection::from_vec(vec![in alloc; key(time(0, 1), 0)]?),
         y: Collection::from_vec(vec![in alloc; key(time(0, 1), 0)]?),
+        effects: Collection::from_vec(Vec::new(alloc)),
     })
 }
 
@@ -104,16 +104,15 @@ fn comp(alloc: Global, sample: Sample) -> Result<PlainComp, AllocError> {
 /// What becomes of a project whose second composition is this.
 fn made(alloc: Global, sample: Sample) -> Result<Result<Project, CheckError>, Fail> {
     let comps = vec![in alloc; comp(alloc, kept())?, comp(alloc, sample)?]?;
-    let plain = PlainProject {
-        depth: sample.depth,
-        root: sample.root,
-        clips: Collection::from_vec(Vec::new(alloc)),
-        comps: Collection::from_vec(comps),
-    };
-    if !plain.is_formed() {
-        return Err("a form")?;
-    }
-    Ok(Project::of_plain(alloc, plain))
+    of_parts(
+        alloc,
+        PlainProject {
+            depth: sample.depth,
+            root: sample.root,
+            clips: Collection::from_vec(Vec::new(alloc)),
+            comps: Collection::from_vec(comps),
+        },
+    )
 }
 
 fn broken(rule: u8, comp: Option<u32>, layer: Option<u32>) -> CheckError {
@@ -142,7 +141,7 @@ fn a_project_that_keeps_the_rules_is_made(rt: HostRuntime) -> Result<(), Fail> {
         (project.base.ticks, project.comps.as_slice().len()),
         (24, 2)
     );
-    assert_eq!(rt; check(rt.alloc(), &project).err(), None);
+    assert_eq!(rt; checked(rt.alloc(), &project).err(), None);
     Ok(())
 }
 
@@ -155,14 +154,17 @@ fn a_project_in_hand_is_checked(rt: HostRuntime) -> Result<(), Fail> {
         ..kept()
     };
     let mut project = made(alloc, wide)?.map_err(|_| "a project")?;
-    assert_eq!(rt; check(alloc, &project).err(), None);
+    assert_eq!(rt; checked(alloc, &project).err(), None);
     project.depth = 8;
     assert_eq!(rt;
-        check(alloc, &project).err(),
+        checked(alloc, &project).err(),
         Some(broken(27, Some(1), Some(2)))
     );
     project.root = 2;
-    assert_eq!(rt; check(alloc, &project).err(), Some(broken(16, None, None)));
+    assert_eq!(rt;
+        checked(alloc, &project).err(),
+        Some(broken(16, None, None))
+    );
     Ok(())
 }
 

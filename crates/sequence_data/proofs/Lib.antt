@@ -1,1 +1,1 @@
-mod Units
+pub mod Units

@@ -16,6 +16,8 @@ returns-clause-scaled c =
       opacity = c.in_ok-plain_keys.field-0;
       x = c.in_ok-plain_keys-2.field-0;
       y = c.in_ok-plain_keys-3.field-0;
+      effects = c.in_ok-plain_effects.field-0;
     })
     layer.start_scaled layer.in_scaled layer.out_scaled
     c.in_ok-plain_keys.ensures.scaled c.in_ok-plain_keys-2.ensures.scaled c.in_ok-plain_keys-3.ensures.scaled
+    c.in_ok-plain_effects.ensures.scaled

@@ -11,12 +11,12 @@ loop-turn-init c = (
   inl (refl, ap (length {A = ℕ}) c.new-ranks.ensures.items),
 )
 
-pub ranks_of_one_more-requires : goal.ranks_of_one_more-requires
-ranks_of_one_more-requires c =
+pub ranks_of_one_more-requires-clause-small : goal.ranks_of_one_more-requires-clause-small
+ranks_of_one_more-requires-clause-small c =
     let all = ap (length {A = PlainComp}) c.as_slice-comps.ensures in
     λ i. subst (λ (n : ℕ). n < 2 ^ 16)
     (sym (ap (λ (xs : List ℕ). slice_index_or xs i 1) c.as_slice.ensures.value ∙ c.loop-turn.invariant.0 i))
-    (rank_small c.loop-turn._turn c.args.project.now i (omega (arith, all, c.requires, c.loop-turn-test.true)))
+    (rank_small c.loop-turn._turn c.args.project.now i (omega (arith, all, c.requires.few_comps, c.loop-turn-test.true)) c.requires)
 
 pub loop-turn-preserved : goal.loop-turn-preserved
 loop-turn-preserved c =

@@ -6,5 +6,5 @@ use Rattle.project_model.proofs.search.first_among.Given as goal
 
 abbrev pub invariant-loop-rule : goal.invariant-loop-rule
 invariant-loop-rule l =
-    first_broken number_of (place_given l.project l.is_based) l.rules
-    ≡ first_broken number_of (place_given l.project l.is_based) (drop l.rule-index l.rules)
+    first_broken number_of (place_given l.schemas l.project l.is_based) l.rules
+    ≡ first_broken number_of (place_given l.schemas l.project l.is_based) (drop l.rule-index l.rules)

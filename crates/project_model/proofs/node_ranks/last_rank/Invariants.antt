@@ -1,0 +1,8 @@
+use Rattle.std.proofs.Common.{◌≡◌, take, slice_index_or}
+use Rattle.std.specs.List.{fold}
+use Rattle.project_model.specs.Nesting.{source_rank, fx_rank}
+use Rattle.project_model.proofs.node_ranks.last_rank.Given as goal
+
+abbrev pub invariant-loop-fx : goal.invariant-loop-fx
+invariant-loop-fx l =
+    l.rank ≡ fold (fx_rank (λ index. slice_index_or l.ranks index 1) l.layers) (source_rank (λ index. slice_index_or l.ranks index 1) l.layer.source) (take l.fx-index l.fx-items)
