@@ -6,6 +6,7 @@ use Rattle.project_model.specs.Checked.{comp_of, layer_of}
 use Rattle.project_model.specs.Laws as model
 use Rattle.project_model.specs.Places.{first_of_two}
 use Rattle.project_model.specs.Rules as numbers
+use Rattle.project_model.specs.declared.effect.EffectSchema.{EffectSchema}
 use Rattle.project_model.specs.declared.place.Breach.{Breach}
 use Rattle.project_model.specs.declared.place.Place.{Place}
 use Rattle.project_model.specs.declared.plain.PlainProject.{PlainProject}
@@ -18,14 +19,13 @@ use Rattle.project_json.specs.PlainData.{plain_of_data}
 use Rattle.project_json.specs.Reading.{checked, judged, error_of, data_breach}
 use Rattle.project_json.specs.declared.error.ProjectError.TheVariants.{Rule as RuleError}
 use Rattle.project_json.specs.declared.form.FormRule.{FormRule}
-use Rattle.project_json.specs.declared.form.FormRule.TheVariants.{Unbuilt, Whole, Names, Version, Depth, Clips, Comps, Layers, LayerCount, Source, Streams, Times}
+use Rattle.project_json.specs.declared.form.FormRule.TheVariants.{Whole, Names, Version, Depth, Clips, Comps, Layers, LayerCount, Source, Effects, EffectName, Threaded, EffectCounts, Streams, Times}
 use Rattle.project_json.proofs.OrderLemmas.{broken}
 use Rattle.project_json.proofs.FormedLemmas.{each_none}
 
 -- ---- rules on the form have lesser numbers than rules on the numbers
 
 form_number : (r : FormRule) → number_of r < 16
-form_number Unbuilt = lit< tt
 form_number Whole = lit< tt
 form_number Names = lit< tt
 form_number Version = lit< tt
@@ -35,6 +35,10 @@ form_number Comps = lit< tt
 form_number Layers = lit< tt
 form_number LayerCount = lit< tt
 form_number Source = lit< tt
+form_number Effects = lit< tt
+form_number EffectName = lit< tt
+form_number Threaded = lit< tt
+form_number EffectCounts = lit< tt
 form_number Streams = lit< tt
 form_number Times = lit< tt
 
@@ -60,58 +64,69 @@ rule_number rule.MatteLayer = lit≤ tt
 rule_number rule.Span = lit≤ tt
 rule_number rule.Rising = lit≤ tt
 rule_number rule.Range = lit≤ tt
+rule_number rule.Params = lit≤ tt
+rule_number rule.EffectLayers = lit≤ tt
+rule_number rule.Sequence = lit≤ tt
 rule_number rule.Rank = lit≤ tt
 
 abbrev after_first : List FormRule
-after_first = Whole ∷ Names ∷ Version ∷ Depth ∷ Clips ∷ Comps ∷ Layers ∷ LayerCount ∷ Source ∷ Streams ∷ Times ∷ []
+after_first =
+    Names ∷ Version ∷ Depth ∷ Clips ∷ Comps ∷ Layers ∷ LayerCount ∷ Source ∷ Effects ∷ EffectName ∷ Threaded ∷ EffectCounts ∷ Streams
+    ∷ Times ∷ []
 
--- the first has the number 0
-rise : Rise number_of 0 after_first
-rise = (lit< tt, (lit< tt, (lit< tt, (lit< tt, (lit< tt, (lit< tt, (lit< tt, (lit< tt, (lit< tt, (lit< tt, (lit< tt, tt)))))))))))
+-- the first has the number 1
+rise : Rise number_of 1 after_first
+rise = (lit< tt, (lit< tt, (lit< tt, (lit< tt, (lit< tt, (lit< tt, (lit< tt, (lit< tt, (lit< tt, (lit< tt, (lit< tt, (lit< tt, (lit< tt, (lit< tt, tt))))))))))))))
 
 form_found : (p : FormRule → Option Place) (breach : Breach) → broken p form_rules ≡ Some breach → IsFound number_of p form_rules breach
-form_found p breach e = by (p Unbuilt) refl e
+form_found p breach e = by (p Whole) refl e
   where
-    by : (o : Option Place) → p Unbuilt ≡ o → first_of_two (option_map (λ (at : Place). record { number = number_of Unbuilt; place = at }) o) (broken p after_first) ≡ Some breach
+    by : (o : Option Place) → p Whole ≡ o → first_of_two (option_map (λ (at : Place). record { number = number_of Whole; place = at }) o) (broken p after_first) ≡ Some breach
         → IsFound number_of p form_rules breach
     by None is later =
-        let behind = found number_of p 0 after_first breach rise later in
+        let behind = found number_of p 1 after_first breach rise later in
         record { rule = behind.rule; number = behind.number; place = behind.place; least = (λ less. is, behind.least) }
-    by (Some at) is here = found_here number_of p Unbuilt after_first at breach rise is here
+    by (Some at) is here = found_here number_of p Whole after_first at breach rise is here
 
 each_below : (p : FormRule → Option Place) (n : ℕ) → KeptBelow number_of p n form_rules → (r : FormRule) → number_of r < n → p r ≡ None
-each_below p n h Unbuilt = h.0
-each_below p n h Whole = h.1.0
-each_below p n h Names = h.1.1.0
-each_below p n h Version = h.1.1.1.0
-each_below p n h Depth = h.1.1.1.1.0
-each_below p n h Clips = h.1.1.1.1.1.0
-each_below p n h Comps = h.1.1.1.1.1.1.0
-each_below p n h Layers = h.1.1.1.1.1.1.1.0
-each_below p n h LayerCount = h.1.1.1.1.1.1.1.1.0
-each_below p n h Source = h.1.1.1.1.1.1.1.1.1.0
-each_below p n h Streams = h.1.1.1.1.1.1.1.1.1.1.0
-each_below p n h Times = h.1.1.1.1.1.1.1.1.1.1.1.0
+each_below p n h Whole = h.0
+each_below p n h Names = h.1.0
+each_below p n h Version = h.1.1.0
+each_below p n h Depth = h.1.1.1.0
+each_below p n h Clips = h.1.1.1.1.0
+each_below p n h Comps = h.1.1.1.1.1.0
+each_below p n h Layers = h.1.1.1.1.1.1.0
+each_below p n h LayerCount = h.1.1.1.1.1.1.1.0
+each_below p n h Source = h.1.1.1.1.1.1.1.1.0
+each_below p n h Effects = h.1.1.1.1.1.1.1.1.1.0
+each_below p n h EffectName = h.1.1.1.1.1.1.1.1.1.1.0
+each_below p n h Threaded = h.1.1.1.1.1.1.1.1.1.1.1.0
+each_below p n h EffectCounts = h.1.1.1.1.1.1.1.1.1.1.1.1.0
+each_below p n h Streams = h.1.1.1.1.1.1.1.1.1.1.1.1.1.0
+each_below p n h Times = h.1.1.1.1.1.1.1.1.1.1.1.1.1.1.0
 
 form_kept : (p : FormRule → Option Place) → All (λ r. p r ≡ None) form_rules → (r : FormRule) → p r ≡ None
-form_kept p none Unbuilt = none 0 Unbuilt (lit< tt)
-form_kept p none Whole = none 1 Unbuilt (lit< tt)
-form_kept p none Names = none 2 Unbuilt (lit< tt)
-form_kept p none Version = none 3 Unbuilt (lit< tt)
-form_kept p none Depth = none 4 Unbuilt (lit< tt)
-form_kept p none Clips = none 5 Unbuilt (lit< tt)
-form_kept p none Comps = none 6 Unbuilt (lit< tt)
-form_kept p none Layers = none 7 Unbuilt (lit< tt)
-form_kept p none LayerCount = none 8 Unbuilt (lit< tt)
-form_kept p none Source = none 9 Unbuilt (lit< tt)
-form_kept p none Streams = none 10 Unbuilt (lit< tt)
-form_kept p none Times = none 11 Unbuilt (lit< tt)
+form_kept p none Whole = none 0 Whole (lit< tt)
+form_kept p none Names = none 1 Whole (lit< tt)
+form_kept p none Version = none 2 Whole (lit< tt)
+form_kept p none Depth = none 3 Whole (lit< tt)
+form_kept p none Clips = none 4 Whole (lit< tt)
+form_kept p none Comps = none 5 Whole (lit< tt)
+form_kept p none Layers = none 6 Whole (lit< tt)
+form_kept p none LayerCount = none 7 Whole (lit< tt)
+form_kept p none Source = none 8 Whole (lit< tt)
+form_kept p none Effects = none 9 Whole (lit< tt)
+form_kept p none EffectName = none 10 Whole (lit< tt)
+form_kept p none Threaded = none 11 Whole (lit< tt)
+form_kept p none EffectCounts = none 12 Whole (lit< tt)
+form_kept p none Streams = none 13 Whole (lit< tt)
+form_kept p none Times = none 14 Whole (lit< tt)
 
 -- ---- both kinds together
 
-least_form : (d : Data) (breach : Breach) → form_breach d ≡ Some breach → IsLeastBreach d breach
-least_form d breach e =
-    let first = form_found (place_of d) breach e in
+least_form : (schemas : List EffectSchema) (d : Data) (breach : Breach) → form_breach schemas d ≡ Some breach → IsLeastBreach schemas d breach
+least_form schemas d breach e =
+    let first = form_found (place_of schemas d) breach e in
     record {
       rule = on_form first.rule;
       number = first.number;
@@ -119,13 +134,13 @@ least_form d breach e =
       least = λ other less. below other less first;
     }
   where
-    below : (other : AnyRule) → number_of_any other < breach.number → IsFound number_of (place_of d) form_rules breach → place_of_any d other ≡ None
-    below (on_form other) less first = each_below (place_of d) breach.number first.least other less
+    below : (other : AnyRule) → number_of_any other < breach.number → IsFound number_of (place_of schemas d) form_rules breach → place_of_any schemas d other ≡ None
+    below (on_form other) less first = each_below (place_of schemas d) breach.number first.least other less
     below (on_numbers other) less first = absurd (omega (arith, form_number first.rule, first.number, rule_number other, less))
 
-least_number : (d : Data) (breach : Breach) → form_breach d ≡ None → breach_of (plain_of_data d) ≡ Some breach → IsLeastBreach d breach
-least_number d breach form e =
-    let first = least_breach (plain_of_data d) breach e in
+least_number : (schemas : List EffectSchema) (d : Data) (breach : Breach) → form_breach schemas d ≡ None → breach_of schemas (plain_of_data schemas d) ≡ Some breach → IsLeastBreach schemas d breach
+least_number schemas d breach form e =
+    let first = least_breach schemas (plain_of_data schemas d) breach e in
     record {
       rule = on_numbers first.rule;
       number = first.number;
@@ -133,41 +148,41 @@ least_number d breach form e =
       least = λ other less. below other less first;
     }
   where
-    below : (other : AnyRule) → number_of_any other < breach.number → model.IsLeastBreach (plain_of_data d) breach → place_of_any d other ≡ None
-    below (on_form other) less first = form_kept (place_of d) (each_none (place_of d) form_rules form) other
+    below : (other : AnyRule) → number_of_any other < breach.number → model.IsLeastBreach schemas (plain_of_data schemas d) breach → place_of_any schemas d other ≡ None
+    below (on_form other) less first = form_kept (place_of schemas d) (each_none (place_of schemas d) form_rules form) other
     below (on_numbers other) less first = first.least other less
 
-least : (d : Data) (breach : Breach) → data_breach d ≡ Some breach → IsLeastBreach d breach
-least d breach e = by (form_breach d) refl e
+least : (schemas : List EffectSchema) (d : Data) (breach : Breach) → data_breach schemas d ≡ Some breach → IsLeastBreach schemas d breach
+least schemas d breach e = by (form_breach schemas d) refl e
   where
-    by : (o : Option Breach) → form_breach d ≡ o → first_of_two o (breach_of (plain_of_data d)) ≡ Some breach → IsLeastBreach d breach
-    by None form e = least_number d breach form e
-    by (Some b) form e = least_form d breach (form ∙ e)
+    by : (o : Option Breach) → form_breach schemas d ≡ o → first_of_two o (breach_of schemas (plain_of_data schemas d)) ≡ Some breach → IsLeastBreach schemas d breach
+    by None form e = least_number schemas d breach form e
+    by (Some b) form e = least_form schemas d breach (form ∙ e)
 
-judged_by : (d : Data) (o : Option Breach) (number : ℕ) (comp layer : Option ℕ) → data_breach d ≡ o → judged o (plain_of_data d) ≡ Err (RuleError number comp layer)
-    → (breach : Breach) × IsLeastBreach d breach × (breach.number ≡ number) × (comp_of breach.place ≡ comp) × (layer_of breach.place ≡ layer)
-judged_by d None number comp layer is e = absurd cc
-judged_by d (Some breach) number comp layer is e =
+judged_by : (schemas : List EffectSchema) (d : Data) (o : Option Breach) (number : ℕ) (comp layer : Option ℕ) → data_breach schemas d ≡ o → judged o (plain_of_data schemas d) ≡ Err (RuleError number comp layer)
+    → (breach : Breach) × IsLeastBreach schemas d breach × (breach.number ≡ number) × (comp_of breach.place ≡ comp) × (layer_of breach.place ≡ layer)
+judged_by schemas d None number comp layer is e = absurd cc
+judged_by schemas d (Some breach) number comp layer is e =
     let same : error_of breach ≡ RuleError number comp layer = cc in
-    (breach, least d breach is, cc, cc, cc)
+    (breach, least schemas d breach is, cc, cc, cc)
 
 pub refusal_least : RefusalIsLeast
-refusal_least bytes d number comp layer json e = judged_by d (data_breach d) number comp layer refl (sym (ap checked json) ∙ e)
+refusal_least schemas bytes d number comp layer json e = judged_by schemas d (data_breach schemas d) number comp layer refl (sym (ap (checked schemas) json) ∙ e)
 
 -- ---- none is broken
 
-both_kept : (d : Data) → data_breach d ≡ None → (rule : AnyRule) → place_of_any d rule ≡ None
-both_kept d e = by (form_breach d) refl e
+both_kept : (schemas : List EffectSchema) (d : Data) → data_breach schemas d ≡ None → (rule : AnyRule) → place_of_any schemas d rule ≡ None
+both_kept schemas d e = by (form_breach schemas d) refl e
   where
-    by : (o : Option Breach) → form_breach d ≡ o → first_of_two o (breach_of (plain_of_data d)) ≡ None → (rule : AnyRule) → place_of_any d rule ≡ None
+    by : (o : Option Breach) → form_breach schemas d ≡ o → first_of_two o (breach_of schemas (plain_of_data schemas d)) ≡ None → (rule : AnyRule) → place_of_any schemas d rule ≡ None
     by (Some b) form e rule = absurd cc
-    by None form e (on_form rule) = form_kept (place_of d) (each_none (place_of d) form_rules form) rule
-    by None form e (on_numbers rule) = (rules_kept (plain_of_data d)).0 e rule
+    by None form e (on_form rule) = form_kept (place_of schemas d) (each_none (place_of schemas d) form_rules form) rule
+    by None form e (on_numbers rule) = (rules_kept schemas (plain_of_data schemas d)).0 e rule
 
-accepted_by : (d : Data) (o : Option Breach) (project : PlainProject) → data_breach d ≡ o → judged o (plain_of_data d) ≡ Ok project
-    → (project ≡ plain_of_data d) × ((rule : AnyRule) → place_of_any d rule ≡ None)
-accepted_by d None project is e = (cc, both_kept d is)
-accepted_by d (Some breach) project is e = absurd cc
+accepted_by : (schemas : List EffectSchema) (d : Data) (o : Option Breach) (project : PlainProject) → data_breach schemas d ≡ o → judged o (plain_of_data schemas d) ≡ Ok project
+    → (project ≡ plain_of_data schemas d) × ((rule : AnyRule) → place_of_any schemas d rule ≡ None)
+accepted_by schemas d None project is e = (cc, both_kept schemas d is)
+accepted_by schemas d (Some breach) project is e = absurd cc
 
 pub project_kept : ProjectKeepsRules
-project_kept bytes d project json e = accepted_by d (data_breach d) project refl (sym (ap checked json) ∙ e)
+project_kept schemas bytes d project json e = accepted_by schemas d (data_breach schemas d) project refl (sym (ap (checked schemas) json) ∙ e)

@@ -4,6 +4,7 @@ use Rattle.std.proofs.lemmas.List.Elements.{All-from_recursion}
 use Rattle.serde_json.specs.Data.{Data}
 use Rattle.project_model.specs.Places.{first_of_two}
 use Rattle.project_model.specs.Broken.{first_broken}
+use Rattle.project_model.specs.declared.effect.EffectSchema.{EffectSchema}
 use Rattle.project_model.specs.declared.place.Breach.{Breach}
 use Rattle.project_model.specs.declared.place.Place.{Place}
 use Rattle.project_json.specs.FormRules.{number_of, form_rules, place_of}
@@ -11,17 +12,17 @@ use Rattle.project_json.specs.Reading.{verdict}
 use Rattle.project_json.specs.Counts.{IsIndexed}
 use Rattle.project_json.specs.declared.error.ProjectError.{ProjectError}
 use Rattle.project_json.specs.declared.form.FormRule.{FormRule}
-use Rattle.project_json.specs.declared.form.FormRule.TheVariants.{Unbuilt, Whole, Names, Version, Depth, Clips, Comps, Layers, LayerCount, Source, Streams, Times}
+use Rattle.project_json.specs.declared.form.FormRule.TheVariants.{Whole, Names, Version, Depth, Clips, Comps, Layers, LayerCount, Source, Effects, EffectName, Threaded, EffectCounts, Streams, Times}
 use Rattle.project_json.proofs.PlaceLemmas.{indexed_project, indexed_Comps, indexed_Layers, indexed_later}
 
 abbrev pub broken : (FormRule → Option Place) → List FormRule → Option Breach
 broken place_of rules = first_broken number_of place_of rules
 
 abbrev pub counted : List FormRule
-counted = Unbuilt ∷ Whole ∷ Names ∷ Version ∷ Depth ∷ Clips ∷ Comps ∷ []
+counted = Whole ∷ Names ∷ Version ∷ Depth ∷ Clips ∷ Comps ∷ []
 
 abbrev pub later : List FormRule
-later = LayerCount ∷ Source ∷ Streams ∷ Times ∷ []
+later = LayerCount ∷ Source ∷ Effects ∷ EffectName ∷ Threaded ∷ EffectCounts ∷ Streams ∷ Times ∷ []
 
 first_assoc : {A : Type 0} (a b c : Option A) → first_of_two (first_of_two a b) c ≡ first_of_two a (first_of_two b c)
 first_assoc (Some a) b c = refl
@@ -46,8 +47,7 @@ first_none r p rest e = parts (p r) (broken p rest) e
 
 pub last_counted : (p : FormRule → Option Place) → broken p counted ≡ None → p Comps ≡ None
 last_counted p e =
-    let a = first_none Unbuilt p (Whole ∷ Names ∷ Version ∷ Depth ∷ Clips ∷ Comps ∷ []) e in
-    let b = first_none Whole p (Names ∷ Version ∷ Depth ∷ Clips ∷ Comps ∷ []) a.1 in
+    let b = first_none Whole p (Names ∷ Version ∷ Depth ∷ Clips ∷ Comps ∷ []) e in
     let d = first_none Names p (Version ∷ Depth ∷ Clips ∷ Comps ∷ []) b.1 in
     let f = first_none Version p (Depth ∷ Clips ∷ Comps ∷ []) d.1 in
     let g = first_none Depth p (Clips ∷ Comps ∷ []) f.1 in
@@ -61,14 +61,14 @@ abbrev pub at : (FormRule → Option Place) → FormRule → Option Breach
 at p r = option_map (λ place. record { number = number_of r; place = place }) (p r)
 
 first_at : (p : FormRule → Option Place) (rs : List FormRule) (i : ℕ) → i < length rs
-    → broken p (drop i rs) ≡ first_of_two (at p (get_or rs i Unbuilt)) (broken p (drop (suc i) rs))
+    → broken p (drop i rs) ≡ first_of_two (at p (get_or rs i Whole)) (broken p (drop (suc i) rs))
 first_at p [] i h = absurd (omega arith)
 first_at p (x ∷ rs) zero h = refl
 first_at p (x ∷ rs) (suc i) h = first_at p rs i (omega arith)
 
 pub broken_first : (p : FormRule → Option Place) (rs : List FormRule) (i : ℕ) → i < length rs
-    → broken p (drop i rs) ≡ first_of_two (at p (get_or rs i Unbuilt)) (broken p (drop (i + 1) rs))
-broken_first p rs i h = first_at p rs i h ∙ ap (λ j. first_of_two (at p (get_or rs i Unbuilt)) (broken p (drop j rs))) (sym (add-one i))
+    → broken p (drop i rs) ≡ first_of_two (at p (get_or rs i Whole)) (broken p (drop (i + 1) rs))
+broken_first p rs i h = first_at p rs i h ∙ ap (λ j. first_of_two (at p (get_or rs i Whole)) (broken p (drop j rs))) (sym (add-one i))
 
 -- ---- verdicts
 
@@ -88,31 +88,33 @@ goes_on a b e = ap (λ o. verdict (first_of_two o b)) e
 pub indexed_counted : (top : Data) → All (λ rule. IsIndexed rule top) counted
 indexed_counted top =
     All-from_recursion (λ rule. IsIndexed rule top) counted (
-      indexed_project top Unbuilt refl refl,
+      indexed_project top Whole refl refl,
       (
-        indexed_project top Whole refl refl,
+        indexed_project top Names refl refl,
         (
-          indexed_project top Names refl refl,
-          (
-            indexed_project top Version refl refl,
-            (indexed_project top Depth refl refl, (indexed_project top Clips refl refl, (indexed_Comps top, tt))),
-          ),
+          indexed_project top Version refl refl,
+          (indexed_project top Depth refl refl, (indexed_project top Clips refl refl, (indexed_Comps top, tt))),
         ),
       ),
     )
 
-pub indexed_one : (top : Data) → broken (place_of top) counted ≡ None → All (λ rule. IsIndexed rule top) (Layers ∷ [])
-indexed_one top e =
-    All-from_recursion (λ rule. IsIndexed rule top) (Layers ∷ []) (indexed_Layers top (last_counted (place_of top) e), tt)
+pub indexed_one : (schemas : List EffectSchema) (top : Data) → broken (place_of schemas top) counted ≡ None → All (λ rule. IsIndexed rule top) (Layers ∷ [])
+indexed_one schemas top e =
+    All-from_recursion (λ rule. IsIndexed rule top) (Layers ∷ []) (indexed_Layers schemas top (last_counted (place_of schemas top) e), tt)
 
-pub indexed_rest : (top : Data) → broken (place_of top) counted ≡ None → broken (place_of top) (Layers ∷ []) ≡ None → All (λ rule. IsIndexed rule top) later
-indexed_rest top e l =
-    let comps = last_counted (place_of top) e in
-    let layers = only_one (place_of top) Layers l in
+pub indexed_rest : (schemas : List EffectSchema) (top : Data) → broken (place_of schemas top) counted ≡ None → broken (place_of schemas top) (Layers ∷ []) ≡ None
+    → All (λ rule. IsIndexed rule top) later
+indexed_rest schemas top e l =
+    let comps = last_counted (place_of schemas top) e in
+    let layers = only_one (place_of schemas top) Layers l in
+    let each = λ (rule : FormRule). indexed_later schemas top rule comps layers in
     All-from_recursion (λ rule. IsIndexed rule top) later (
-      indexed_later top LayerCount comps layers,
+      each LayerCount,
       (
-        indexed_later top Source comps layers,
-        (indexed_later top Streams comps layers, (indexed_later top Times comps layers, tt)),
+        each Source,
+        (
+          each Effects,
+          (each EffectName, (each Threaded, (each EffectCounts, (each Streams, (each Times, tt))))),
+        ),
       ),
     )

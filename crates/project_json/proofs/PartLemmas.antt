@@ -9,7 +9,7 @@ use Rattle.serde_json.specs.declared.value.Value.{Value}
 use Rattle.serde_json.specs.Data.{Data, null, boolean, number, string, array, object, Items, Members}
 use Rattle.serde_json.specs.Find.{as_number, as_array, as_object, get}
 use Rattle.project_model.specs.Constant.{constant_key}
-use Rattle.project_json.specs.Parts.{list_of, member_names, is_one_of, texts_of, has_only, has_each, items_in, whole_in, is_number, is_object, is_list_of_objects}
+use Rattle.project_json.specs.Parts.{list_of, member_names, is_one_of, texts_of, has_only, has_each, items_in, whole_in, is_array, is_number, is_object, is_list_of_objects}
 use Rattle.rational_time.specs.declared.time.Time.{Time}
 use Rattle.project_model.specs.declared.clip.ClipUse.{ClipUse}
 use Rattle.project_model.specs.declared.plain.PlainLayer.{PlainLayer}
@@ -17,7 +17,7 @@ use Rattle.project_model.specs.declared.plain.PlainComp.{PlainComp}
 use Rattle.project_model.specs.declared.plain.PlainProject.{PlainProject}
 use Rattle.project_model.specs.Bounds.{is_among, most_keys}
 use Rattle.project_json.specs.Reads.{key_in, keys_in}
-use Rattle.project_json.specs.FormRules.{is_keyframe, is_stream}
+use Rattle.project_json.specs.Shapes.{is_keyframe, is_stream}
 
 pub list_of-items_view : (vs : List Value) → list_of (items_view vs) ≡ map view vs
 list_of-items_view [] = refl
@@ -92,6 +92,25 @@ number_test (number n) = refl
 number_test (string s) = refl
 number_test (array items) = refl
 number_test (object ms) = refl
+
+pub array_test : (d : Data) → is_some (as_array d) ≡ is_array d
+array_test null = refl
+array_test (boolean b) = refl
+array_test (number n) = refl
+array_test (string s) = refl
+array_test (array items) = refl
+array_test (object ms) = refl
+
+-- a test of all parts, as the code finds them
+pub all_viewed : (test : Data → Bool) (vs : List Value) (ds : List Data) → map view vs ≡ ds → list_all (λ v. test (view v)) vs ≡ list_all test ds
+all_viewed test vs ds e = sym (list_all-map test view vs) ∙ ap (list_all test) e
+
+pub any_viewed : (test : Data → Bool) (vs : List Value) (ds : List Data) → map view vs ≡ ds → list_any (λ v. test (view v)) vs ≡ list_any test ds
+any_viewed test vs ds e = twice vs ∙ ap (list_any test) e
+  where
+    twice : (vs : List Value) → list_any (λ v. test (view v)) vs ≡ list_any test (map view vs)
+    twice [] = refl
+    twice (v ∷ vs) = ap (λ b. test (view v) || b) (twice vs)
 
 stream_parts : (d : Data) (ds : List Data) (a : Bool) → ds ≡ items_in d → is_number d ≡ false → is_among 1 most_keys (length ds) ≡ a
     → is_stream d ≡ (a && list_all is_keyframe ds)

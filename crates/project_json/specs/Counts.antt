@@ -5,13 +5,17 @@ use Rattle.project_model.specs.Bounds.{most_comps, most_layers}
 use Rattle.project_json.specs.FormRules.{breaks_project, breaks_comp}
 use Rattle.project_json.specs.PlainData.{items_of}
 use Rattle.project_json.specs.declared.form.FormRule.{FormRule}
-use Rattle.project_json.specs.declared.form.FormRule.TheVariants.{Comps, Layers, Source, Streams, Times}
+use Rattle.project_json.specs.declared.form.FormRule.TheVariants.{Comps, Layers, Source, Effects, EffectName, Threaded, EffectCounts, Streams, Times}
 
 -- the rule looks into compositions
 abbrev pub is_in_comps : FormRule → Bool
 is_in_comps Comps = true
 is_in_comps Layers = true
 is_in_comps Source = true
+is_in_comps Effects = true
+is_in_comps EffectName = true
+is_in_comps Threaded = true
+is_in_comps EffectCounts = true
 is_in_comps Streams = true
 is_in_comps Times = true
 is_in_comps _ = false
@@ -20,6 +24,10 @@ is_in_comps _ = false
 abbrev pub is_in_layers : FormRule → Bool
 is_in_layers Layers = true
 is_in_layers Source = true
+is_in_layers Effects = true
+is_in_layers EffectName = true
+is_in_layers Threaded = true
+is_in_layers EffectCounts = true
 is_in_layers Streams = true
 is_in_layers Times = true
 is_in_layers _ = false

@@ -2,9 +2,10 @@ pub mod Json
 pub mod Parts
 pub mod Reads
 pub mod PlainData
+pub mod Shapes
+pub mod EffectForm
 pub mod FormRules
 pub mod Counts
-pub mod Sought
 pub mod Reading
 pub mod Laws
 pub mod Worked

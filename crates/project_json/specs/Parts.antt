@@ -29,6 +29,10 @@ abbrev pub is_object : Data → Bool
 is_object (object _) = true
 is_object _ = false
 
+abbrev pub is_array : Data → Bool
+is_array (array _) = true
+is_array _ = false
+
 abbrev pub is_number : Data → Bool
 is_number (number _) = true
 is_number _ = false

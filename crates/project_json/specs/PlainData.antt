@@ -1,6 +1,7 @@
 -- The plain parts of a project that a JSON value writes. It is total: a number that is not there, or that is no whole number
 -- from 0 to 2^32-1, or to 255 for the depth of a clip, counts as 0, or as the greatest index; what is no name counts as the empty
--- one, and what names no mode or matte as none; the rule on it accepts none of these. What is absent has its default.
+-- one, what names no mode or matte as none, what names no effect of the set as the greatest kind, and sequence data that is no
+-- hex text as none; the rule on it accepts none of these. What is absent has its default.
 use Rattle.std.specs.Prelude.{ℕ, ℤ, pos, List, [], ◌∷◌, map, codes, Option, Some, option_and_then, option_map, unwrap_or}
 use Rattle.std.specs.Option.{option_map_or}
 use Rattle.serde_json.specs.Data.{Data}
@@ -14,11 +15,13 @@ use Rattle.track_matte.specs.declared.matte.Matte.TheVariants as matte
 use Rattle.project_model.specs.Bounds.{full_opacity}
 use Rattle.project_model.specs.Constant.{zero_time, constant_key}
 use Rattle.project_model.specs.declared.clip.ClipUse.{ClipUse}
+use Rattle.project_model.specs.declared.effect.EffectSchema.{EffectSchema}
+use Rattle.project_model.specs.declared.plain.PlainFx.{PlainFx}
 use Rattle.project_model.specs.declared.plain.PlainLayer.{PlainLayer}
 use Rattle.project_model.specs.declared.plain.PlainComp.{PlainComp}
 use Rattle.project_model.specs.declared.plain.PlainProject.{PlainProject}
 use Rattle.project_json.specs.Parts.{items_in, byte_in, count_in}
-use Rattle.project_json.specs.Reads.{time_in, keys_in, mode_in, matte_in, no_solid, no_index, source_in}
+use Rattle.project_json.specs.Reads.{time_in, keys_in, mode_in, matte_in, no_solid, index_in, no_index, source_in, fx_kind_in, no_kind, bytes_in}
 
 -- the count in the member of that name
 abbrev pub count_of : ℕ → List ℕ → Data → ℕ
@@ -61,8 +64,24 @@ plain_clip_of clip = record {
   frames = count_of 0 (codes "frames") clip;
 }
 
-abbrev pub plain_layer_of : Data → PlainLayer
-plain_layer_of layer = record {
+-- the kind of the effect that `effect` names, where these are the schemas of the effect set
+abbrev pub fx_kind_of : List EffectSchema → Data → Option ℕ
+fx_kind_of schemas fx = option_and_then (fx_kind_in schemas) (get (codes "effect") fx)
+
+-- the bytes of `sequence`, none of them where it is not there
+abbrev pub sequence_of : Data → Option (List ℕ)
+sequence_of fx = option_map_or bytes_in (get (codes "sequence") fx) (Some [])
+
+abbrev pub plain_fx_of : List EffectSchema → Data → PlainFx
+plain_fx_of schemas fx = record {
+  kind = unwrap_or (fx_kind_of schemas fx) no_kind;
+  params = map keys_in (items_of (codes "params") fx);
+  layers = map index_in (items_of (codes "layers") fx);
+  sequence = sequence_of fx;
+}
+
+abbrev pub plain_layer_of : List EffectSchema → Data → PlainLayer
+plain_layer_of schemas layer = record {
   source = unwrap_or (option_map source_in (get (codes "source") layer)) no_solid;
   start = time_of (codes "start") layer;
   in_point = time_of (codes "in") layer;
@@ -72,21 +91,22 @@ plain_layer_of layer = record {
   opacity = keys_of full_opacity (codes "opacity") layer;
   x = keys_of (pos 0) (codes "x") layer;
   y = keys_of (pos 0) (codes "y") layer;
+  effects = map (plain_fx_of schemas) (items_of (codes "effects") layer);
 }
 
-abbrev pub plain_comp_of : Data → PlainComp
-plain_comp_of comp = record {
+abbrev pub plain_comp_of : List EffectSchema → Data → PlainComp
+plain_comp_of schemas comp = record {
   width = count_of 0 (codes "width") comp;
   height = count_of 0 (codes "height") comp;
   frame = time_of (codes "frame") comp;
   frames = count_of 0 (codes "frames") comp;
-  layers = map plain_layer_of (items_of (codes "layers") comp);
+  layers = map (plain_layer_of schemas) (items_of (codes "layers") comp);
 }
 
-abbrev pub plain_of_data : Data → PlainProject
-plain_of_data top = record {
+abbrev pub plain_of_data : List EffectSchema → Data → PlainProject
+plain_of_data schemas top = record {
   depth = count_of 0 (codes "depth") top;
   root = count_of no_index (codes "root") top;
   clips = map plain_clip_of (items_of (codes "clips") top);
-  comps = map plain_comp_of (items_of (codes "comps") top);
+  comps = map (plain_comp_of schemas) (items_of (codes "comps") top);
 }

@@ -1,6 +1,9 @@
--- What the parts of a project are read as: times, keyframes, modes, mattes and sources.
+-- What the parts of a project are read as: times, keyframes, modes, mattes, sources, and the parts of effects.
 use Rattle.std.specs.Prelude.{ℕ, ◌&&◌, ℤ, pos, negsuc, List, [], ◌∷◌, map, codes, if◌then◌else◌, Option, Some, None, option_and_then, unwrap_or}
+use Rattle.std.specs.List.{position_from}
+use Rattle.std.specs.Result.{result_ok}
 use Rattle.std.specs.Str.{bytes_eq}
+use Rattle.hex.specs.Hex.{decode_of}
 use Rattle.serde_json.specs.Data.{Data}
 use Rattle.serde_json.specs.Find.{get, as_str}
 use Rattle.rational_time.specs.declared.time.Time.{Time}
@@ -13,6 +16,7 @@ use Rattle.track_matte.specs.Names.{matte_named}
 use Rattle.track_matte.specs.declared.matte.Matte.{Matte}
 use Rattle.project_model.specs.Bounds.{is_among, is_between}
 use Rattle.project_model.specs.Constant.{zero_time, constant_key}
+use Rattle.project_model.specs.declared.effect.EffectSchema.{EffectSchema}
 use Rattle.project_model.specs.declared.item.Item.{Item}
 use Rattle.project_model.specs.declared.item.Item.TheVariants.{Solid, Clip, Comp}
 use Rattle.project_json.specs.Parts.{items_in, is_number, whole_in, count_in}
@@ -104,3 +108,19 @@ source_from None None None = no_solid
 -- `{"solid": ..}`, `{"clip": index}` or `{"comp": index}`
 abbrev pub source_in : Data → Item
 source_in d = source_from (get (codes "solid") d) (get (codes "clip") d) (get (codes "comp") d)
+
+-- the kind of this name, which is its place in the set
+abbrev pub fx_named : List EffectSchema → List ℕ → Option ℕ
+fx_named schemas name = position_from (λ schema. bytes_eq name schema.name) 0 schemas
+
+-- the name of an effect of the set
+abbrev pub fx_kind_in : List EffectSchema → Data → Option ℕ
+fx_kind_in schemas d = option_and_then (fx_named schemas) (as_str d)
+
+-- hex text, in either case
+abbrev pub bytes_in : Data → Option (List ℕ)
+bytes_in d = option_and_then (λ text. result_ok (decode_of text)) (as_str d)
+
+-- the greatest kind, for what names no effect of the set
+abbrev pub no_kind : ℕ
+no_kind = 65535

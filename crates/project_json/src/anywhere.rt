@@ -1,51 +1,29 @@
-ghost use Rattle.std.specs.Prelude.{◌≡◌, not, is_some};
-ghost use Rattle.std.specs.BTreeMap.{keys};
-ghost use Rattle.std.specs.List.{list_any};
+ghost use Rattle.std.specs.Prelude.{◌≡◌};
 ghost use Rattle.serde_json.specs.View.{view, items_view, members_view};
 ghost use Rattle.project_json.specs.Parts.{anywhere, in_items, in_members};
-ghost use Rattle.project_json.specs.Sought.{test_of};
+ghost use Rattle.project_json.specs.FormRules.{is_not_whole};
 
-use crate::parts::{has_unbuilt, is_not_whole};
+use crate::parts::is_not_whole;
 use serde_json::{Map, Value};
 
-/// What the rules that look at any depth look for.
-#[derive(Clone, Copy)]
-pub(crate) enum Sought {
-    /// A member for a part that is not built yet.
-    Unbuilt,
-    /// A number that is not whole, or too large.
-    NotWhole,
-}
-
-impl Sought {
-    fn is_at(self, value: &Value) -> bool
-        ensures { result ≡ test_of self (view value.now) }
-    {
-        match self {
-            Sought::Unbuilt => has_unbuilt(value),
-            Sought::NotWhole => is_not_whole(value),
-        }
-    }
-}
-
-/// Whether it is somewhere in the value, at any depth.
+/// Whether there is a number in the value, at any depth, that is not whole, or too large.
 #[cycle(anywhere)]
-pub(crate) fn is_anywhere(sought: Sought, value: &Value) -> bool
-    ensures { result ≡ anywhere (test_of sought) (view value.now) }
+pub(crate) fn is_anywhere_not_whole(value: &Value) -> bool
+    ensures { result ≡ anywhere is_not_whole (view value.now) }
 {
     match value {
-        Value::Array(items) => sought.is_at(value) || is_in_items(sought, items),
-        Value::Object(members) => sought.is_at(value) || is_in_members(sought, members),
-        _ => sought.is_at(value),
+        Value::Array(items) => is_not_whole(value) || is_in_items(items),
+        Value::Object(members) => is_not_whole(value) || is_in_members(members),
+        _ => is_not_whole(value),
     }
 }
 
 #[cycle(anywhere)]
-fn is_in_items(sought: Sought, items: &Vec<Value>) -> bool
-    ensures { result ≡ in_items (test_of sought) (items_view items.now.items) }
+fn is_in_items(items: &Vec<Value>) -> bool
+    ensures { result ≡ in_items is_not_whole (items_view items.now.items) }
 {
     for item in items {
-        if is_anywhere(sought, item) {
+        if is_anywhere_not_whole(item) {
             return true;
         }
     }
@@ -53,11 +31,11 @@ fn is_in_items(sought: Sought, items: &Vec<Value>) -> bool
 }
 
 #[cycle(anywhere)]
-fn is_in_members(sought: Sought, members: &Map<String, Value>) -> bool
-    ensures { result ≡ in_members (test_of sought) (members_view members.now.entries) }
+fn is_in_members(members: &Map<String, Value>) -> bool
+    ensures { result ≡ in_members is_not_whole (members_view members.now.entries) }
 {
     for (_, member) in members.iter() {
-        if is_anywhere(sought, member) {
+        if is_anywhere_not_whole(member) {
             return true;
         }
     }

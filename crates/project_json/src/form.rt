@@ -1,18 +1,21 @@
 ghost use Rattle.std.specs.Prelude.{◌≡◌, ◌&&◌, [], ◌∷◌, codes, nat_lt, sum_by, length, map, IsTrue};
-ghost use Rattle.std.specs.List.{list_all};
+ghost use Rattle.std.specs.List.{list_all, list_any};
 ghost use Rattle.serde_json.specs.Find.{get};
 ghost use Rattle.serde_json.specs.View.{view};
 ghost use Rattle.project_model.specs.Bounds.{most_layers_in_all};
 ghost use Rattle.project_json.specs.Parts.{has_only, has_each, has_exactly, is_there, where_there, is_list_of_objects, is_the_number};
 ghost use Rattle.project_json.specs.PlainData.{items_of};
 ghost use Rattle.project_json.specs.Counts.{is_in_comps, is_in_layers};
-ghost use Rattle.project_json.specs.FormRules.{number_of, breaks_project, breaks_comp, breaks_layer, layer_names, stream_names, time_names, clip_names, are_clips, has_frame, is_stream, is_time, key_has_time, is_source};
+ghost use Rattle.project_json.specs.Shapes.{has_frame, is_stream, is_time, key_has_time, is_source};
+ghost use Rattle.project_json.specs.FormRules.{number_of, breaks_project, breaks_comp, breaks_layer_itself, breaks_effect, breaks_layer, layer_names, stream_names, time_names, clip_names, are_clips};
 
-use crate::anywhere::{Sought, is_anywhere};
+use crate::anywhere::is_anywhere_not_whole;
+use crate::effects::{self, has_counts, has_known_kind, is_threaded, may_have_effects};
 use crate::parts::{
     has_each, has_exactly, has_only, is_list_of_objects, is_the_number, items_in, items_of,
 };
 use crate::shapes::{has_frame, is_source, keys_have_times, may_be_stream, may_be_time};
+use project_model::EffectSchema;
 use serde_json::Value;
 
 /// The most clips of a project.
@@ -30,8 +33,6 @@ const MOST_LAYERS_IN_ALL: usize = project_model::MOST_LAYERS_IN_ALL as usize;
 /// The rules on a project's form, by their numbers, before any on its numbers. They are this project's own.
 #[derive(Clone, Copy, Debug, PartialEq, Eq)]
 pub(crate) enum FormRule {
-    /// 0: no object, at any depth, has a member named `effects`, which are not built yet.
-    Unbuilt,
     /// 1: every number, at any depth, is a whole number from -2^63 to 2^63-1, written without fraction or exponent.
     Whole,
     /// 2: the value is an object with no names but `version`, `depth`, `root`, `clips` and `comps`.
@@ -50,6 +51,15 @@ pub(crate) enum FormRule {
     LayerCount,
     /// 9: `source` is an object with exactly one name: `solid`, `clip` or `comp`.
     Source,
+    /// 10: `effects`, where it is there, is an array of at most 8 objects, each with `effect` and no names but an effect's.
+    Effects,
+    /// 11: `effect` is the name of an effect of the set.
+    EffectName,
+    /// 12: that effect may be drawn by several threads.
+    Threaded,
+    /// 13: `params` and an effect's `layers`, where they are there, are arrays of as many members as the schema says, and the
+    /// members of `layers` are numbers.
+    EffectCounts,
     /// 14: every stream is a number, or an array of 1 to 4,096 keyframes `[number, time, kind]`.
     Streams,
     /// 15: every time is `[value, scale]`, the value from -2147483648 to 2147483647, the scale from 1 to 4294967295.
@@ -62,7 +72,6 @@ impl FormRule {
         ensures { result ≡ number_of self }
     {
         match self {
-            FormRule::Unbuilt => 0,
             FormRule::Whole => 1,
             FormRule::Names => 2,
             FormRule::Version => 3,
@@ -72,6 +81,10 @@ impl FormRule {
             FormRule::Layers => 7,
             FormRule::LayerCount => 8,
             FormRule::Source => 9,
+            FormRule::Effects => 10,
+            FormRule::EffectName => 11,
+            FormRule::Threaded => 12,
+            FormRule::EffectCounts => 13,
             FormRule::Streams => 14,
             FormRule::Times => 15,
         }
@@ -82,8 +95,7 @@ impl FormRule {
         ensures { result ≡ breaks_project (view top.now) self }
     {
         match self {
-            FormRule::Unbuilt => is_anywhere(Sought::Unbuilt, top),
-            FormRule::Whole => is_anywhere(Sought::NotWhole, top),
+            FormRule::Whole => is_anywhere_not_whole(top),
             FormRule::Names => !has_only(top, &["version", "depth", "root", "clips", "comps"]),
             FormRule::Version => !is_number_of(top, "version", 1),
             FormRule::Depth => !is_number_of(top, "depth", 8) && !is_number_of(top, "depth", 16),
@@ -111,18 +123,49 @@ impl FormRule {
         }
     }
 
-    /// What breaks it in a layer.
-    pub(crate) fn is_broken_in_layer(self, layer: &Value) -> bool
-        ensures broken { result ≡ breaks_layer self (view layer.now) }
-        ensures looked { IsTrue result → IsTrue (is_in_layers self) }
+    /// What breaks it in a layer outside its effects.
+    fn is_broken_in_layer_itself(self, layer: &Value) -> bool
+        ensures { result ≡ breaks_layer_itself self (view layer.now) }
     {
         match self {
             FormRule::Layers => !has_layer_names(layer),
             FormRule::Source => !has_source(layer),
+            FormRule::Effects => !may_have_effects(layer),
             FormRule::Streams => !has_streams(layer),
             FormRule::Times => !has_times(layer),
             _ => false,
         }
+    }
+
+    /// What breaks it in an effect of a layer.
+    fn is_broken_in_effect(self, fx: &Value, schemas: &[EffectSchema]) -> bool
+        ensures { result ≡ breaks_effect schemas.now self (view fx.now) }
+    {
+        match self {
+            FormRule::EffectName => !has_known_kind(fx, schemas),
+            FormRule::Threaded => !is_threaded(fx, schemas),
+            FormRule::EffectCounts => !has_counts(fx, schemas),
+            FormRule::Streams => !effects::has_streams(fx),
+            FormRule::Times => !effects::has_key_times(fx),
+            _ => false,
+        }
+    }
+
+    fn is_broken_in_effects(self, effects: &[Value], schemas: &[EffectSchema]) -> bool
+        ensures { result ≡ list_any (λ fx. breaks_effect schemas.now self (view fx)) effects.now }
+    {
+        effects
+            .iter()
+            .any(|fx| self.is_broken_in_effect(fx, schemas))
+    }
+
+    /// What breaks it in a layer.
+    pub(crate) fn is_broken_in_layer(self, layer: &Value, schemas: &[EffectSchema]) -> bool
+        ensures broken { result ≡ breaks_layer schemas.now self (view layer.now) }
+        ensures looked { IsTrue result → IsTrue (is_in_layers self) }
+    {
+        self.is_broken_in_layer_itself(layer)
+            || self.is_broken_in_effects(items_of(layer, "effects"), schemas)
     }
 }
 

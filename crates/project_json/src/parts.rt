@@ -6,7 +6,7 @@ ghost use Rattle.serde_json.specs.Find.{get, as_object};
 ghost use Rattle.serde_json.specs.View.{view};
 ghost use Rattle.project_model.specs.Bounds.{is_among};
 ghost use Rattle.project_json.specs.Parts.{items_in, names_in, texts_of, has_only, has_each, has_exactly, is_the_number, is_list_of_objects, byte_in, count_in, whole_in};
-ghost use Rattle.project_json.specs.FormRules.{has_unbuilt, is_not_whole};
+ghost use Rattle.project_json.specs.FormRules.{is_not_whole};
 ghost use Rattle.project_json.specs.PlainData.{items_of};
 
 use serde_json::{Map, Value};
@@ -142,13 +142,6 @@ pub(crate) fn is_not_whole(value: &Value) -> bool
     ensures { result ≡ is_not_whole (view value.now) }
 {
     value.is_number() && !value.is_i64()
-}
-
-/// An object with a member named `effects`, which are not built yet.
-pub(crate) fn has_unbuilt(value: &Value) -> bool
-    ensures { result ≡ has_unbuilt (view value.now) }
-{
-    has_member(value, "effects")
 }
 
 /// How many names an object has; any other value has none.

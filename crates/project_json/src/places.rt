@@ -11,18 +11,18 @@ ghost use Rattle.project_json.specs.Reading.{error_of, verdict};
 use crate::ProjectError;
 use crate::form::FormRule;
 use crate::parts::items_of;
-use project_model::Place;
+use project_model::{EffectSchema, Place};
 use serde_json::Value;
 
 impl FormRule {
     /// The first layer that breaks it.
-    fn first_layer(self, layers: &[Value]) -> Option<u32>
+    fn first_layer(self, layers: &[Value], schemas: &[EffectSchema]) -> Option<u32>
         requires { IsTrue (is_in_layers self) → length layers.now ≤ most_layers }
-        ensures first { result ≡ first_from (λ _ layer. breaks_layer self layer) 0 (map view layers.now) }
+        ensures first { result ≡ first_from (λ _ layer. breaks_layer schemas.now self layer) 0 (map view layers.now) }
         ensures looked { IfSome result (λ _. IsTrue (is_in_layers self)) }
     {
         for (i, layer) in layers.iter().enumerate() {
-            if self.is_broken_in_layer(layer) {
+            if self.is_broken_in_layer(layer, schemas) {
                 return Some(i as u32);
             }
         }
@@ -30,18 +30,18 @@ impl FormRule {
     }
 
     /// The first place in the compositions where it is broken.
-    fn first_in_comps(self, comps: &[Value]) -> Option<Place>
+    fn first_in_comps(self, comps: &[Value], schemas: &[EffectSchema]) -> Option<Place>
         requires few_comps { IsTrue (is_in_comps self) → length comps.now ≤ most_comps }
         requires few_layers { All (λ comp. HasFewLayers self (view comp)) comps.now }
         ensures { result
             ≡ first_in_comps (items_of (codes "layers")) (λ _ comp. breaks_comp self comp)
-            (λ _ _ layer. breaks_layer self layer) 0 (map view comps.now) }
+            (λ _ _ layer. breaks_layer schemas.now self layer) 0 (map view comps.now) }
     {
         for (i, comp) in comps.iter().enumerate() {
             if self.is_broken_in_comp(comp) {
                 return Some(Place::Comp(i as u32));
             }
-            if let Some(layer) = self.first_layer(items_of(comp, "layers")) {
+            if let Some(layer) = self.first_layer(items_of(comp, "layers"), schemas) {
                 return Some(Place::Layer(i as u32, layer));
             }
         }
@@ -49,14 +49,14 @@ impl FormRule {
     }
 
     /// The first place where it is broken.
-    fn place(self, top: &Value) -> Option<Place>
+    fn place(self, top: &Value, schemas: &[EffectSchema]) -> Option<Place>
         requires { IsIndexed self (view top.now) }
-        ensures { result ≡ place_of (view top.now) self }
+        ensures { result ≡ place_of schemas.now (view top.now) self }
     {
         if self.is_broken_in_project(top) {
             Some(Place::Project)
         } else {
-            self.first_in_comps(items_of(top, "comps"))
+            self.first_in_comps(items_of(top, "comps"), schemas)
         }
     }
 
@@ -76,11 +76,11 @@ impl FormRule {
         }
     }
 
-    fn check(self, top: &Value) -> Result<(), ProjectError>
+    fn check(self, top: &Value, schemas: &[EffectSchema]) -> Result<(), ProjectError>
         requires { IsIndexed self (view top.now) }
-        ensures { result ≡ verdict (breach_at (view top.now) self) }
+        ensures { result ≡ verdict (breach_at schemas.now (view top.now) self) }
     {
-        match self.place(top) {
+        match self.place(top, schemas) {
             Some(place) => Err(self.error_at(place)),
             None => Ok(()),
         }
@@ -88,23 +88,22 @@ impl FormRule {
 }
 
 /// These rules, in this order.
-fn check_each(rules: &[FormRule], top: &Value) -> Result<(), ProjectError>
+fn check_each(rules: &[FormRule], top: &Value, schemas: &[EffectSchema]) -> Result<(), ProjectError>
     requires { All (λ rule. IsIndexed rule (view top.now)) rules.now }
-    ensures { result ≡ verdict (first_broken number_of (place_of (view top.now)) rules.now) }
+    ensures { result ≡ verdict (first_broken number_of (place_of schemas.now (view top.now)) rules.now) }
 {
     for rule in rules {
-        rule.check(top)?;
+        rule.check(top, schemas)?;
     }
     Ok(())
 }
 
 /// The rules on a project's form, in the order of their numbers. Those from `Layers` on look into compositions that `Comps`
 /// has counted, and those after it into layers that it has counted.
-pub(crate) fn check_form(top: &Value) -> Result<(), ProjectError>
-    ensures { result ≡ verdict (form_breach (view top.now)) }
+pub(crate) fn check_form(top: &Value, schemas: &[EffectSchema]) -> Result<(), ProjectError>
+    ensures { result ≡ verdict (form_breach schemas.now (view top.now)) }
 {
     let counted = [
-        FormRule::Unbuilt,
         FormRule::Whole,
         FormRule::Names,
         FormRule::Version,
@@ -115,10 +114,14 @@ pub(crate) fn check_form(top: &Value) -> Result<(), ProjectError>
     let later = [
         FormRule::LayerCount,
         FormRule::Source,
+        FormRule::Effects,
+        FormRule::EffectName,
+        FormRule::Threaded,
+        FormRule::EffectCounts,
         FormRule::Streams,
         FormRule::Times,
     ];
-    check_each(&counted, top)?;
-    check_each(&[FormRule::Layers], top)?;
-    check_each(&later, top)
+    check_each(&counted, top, schemas)?;
+    check_each(&[FormRule::Layers], top, schemas)?;
+    check_each(&later, top, schemas)
 }

@@ -1,18 +1,20 @@
-ghost use Rattle.std.specs.Prelude.{◌≡◌, ℤ, ◌∷◌, [], map, IfOk, option_and_then, option_map, unwrap_or, codes};
+ghost use Rattle.std.specs.Prelude.{◌≡◌, ◌≤◌, ℤ, ◌∷◌, [], length, map, IfOk, option_and_then, option_map, unwrap_or, codes};
 ghost use Rattle.serde_json.specs.Find.{get};
 ghost use Rattle.serde_json.specs.View.{view};
 ghost use Rattle.project_model.specs.Constant.{constant_key};
 ghost use Rattle.project_json.specs.Reads.{key_in, keys_in, time_in, source_in, no_solid};
-ghost use Rattle.project_json.specs.PlainData.{count_of, text_of, depth_of, time_of, keys_of, mode_of, matte_of, plain_clip_of, plain_layer_of, plain_comp_of, plain_of_data};
+ghost use Rattle.project_json.specs.PlainData.{count_of, text_of, depth_of, time_of, keys_of, mode_of, matte_of, items_of, plain_fx_of, plain_clip_of, plain_layer_of, plain_comp_of, plain_of_data};
 
 use crate::parts::{byte_in, count_in, items_in, items_of, whole_in};
+use crate::plain_fx::each_fx;
 use crate::reads::{
     NO_INDEX, NO_SOLID, ZERO_TIME, constant_key, key_in, matte_in, mode_in, source_in, time_in,
 };
 use host_io::Memory;
 use param_stream::Keyframe;
 use project_model::{
-    ClipUse, Collection, FULL_OPACITY, Item, PlainComp, PlainLayer, PlainProject, Text,
+    ClipUse, Collection, EffectSchema, FULL_OPACITY, Item, PlainComp, PlainFx, PlainLayer,
+    PlainProject, Text,
 };
 use rational_time::Time;
 use serde_json::Value;
@@ -81,7 +83,7 @@ fn each_key(alloc: Global, items: &[Value]) -> Result<Vec<Keyframe>, Memory>
 }
 
 /// A number is a constant stream, and an array is its keyframes.
-fn keys_in(alloc: Global, value: &Value) -> Result<Collection<Keyframe>, Memory>
+pub(crate) fn keys_in(alloc: Global, value: &Value) -> Result<Collection<Keyframe>, Memory>
     ensures { IfOk result (λ keys. keys ≡ keys_in (view value.now)) }
 {
     if value.is_number() {
@@ -143,8 +145,22 @@ fn matte_of(layer: &Value) -> Option<Matte>
     }
 }
 
-fn plain_layer(alloc: Global, layer: &Value) -> Result<PlainLayer, Memory>
-    ensures { IfOk result (λ plain. plain ≡ plain_layer_of (view layer.now)) }
+/// The effects of a layer.
+fn effects_of(
+    alloc: Global,
+    layer: &Value,
+    schemas: &[EffectSchema],
+) -> Result<Collection<PlainFx>, Memory>
+    requires { length schemas.now ≤ 65536 }
+    ensures { IfOk result (λ plain. plain ≡ map (plain_fx_of schemas.now) (items_of (codes "effects") (view layer.now))) }
+{
+    let effects = each_fx(alloc, items_of(layer, "effects"), schemas)?;
+    Ok(Collection::from_vec(effects))
+}
+
+fn plain_layer(alloc: Global, layer: &Value, schemas: &[EffectSchema]) -> Result<PlainLayer, Memory>
+    requires { length schemas.now ≤ 65536 }
+    ensures { IfOk result (λ plain. plain ≡ plain_layer_of schemas.now (view layer.now)) }
 {
     Ok(PlainLayer {
         source: source_of(layer),
@@ -156,15 +172,21 @@ fn plain_layer(alloc: Global, layer: &Value) -> Result<PlainLayer, Memory>
         opacity: keys_of(alloc, layer, "opacity", FULL_OPACITY)?,
         x: keys_of(alloc, layer, "x", 0)?,
         y: keys_of(alloc, layer, "y", 0)?,
+        effects: effects_of(alloc, layer, schemas)?,
     })
 }
 
-fn each_layer(alloc: Global, layers: &[Value]) -> Result<Vec<PlainLayer>, Memory>
-    ensures { IfOk result (λ plain. plain.items ≡ map (λ layer. plain_layer_of (view layer)) layers.now) }
+fn each_layer(
+    alloc: Global,
+    layers: &[Value],
+    schemas: &[EffectSchema],
+) -> Result<Vec<PlainLayer>, Memory>
+    requires { length schemas.now ≤ 65536 }
+    ensures { IfOk result (λ plain. plain.items ≡ map (λ layer. plain_layer_of schemas.now (view layer)) layers.now) }
 {
     let mut plain = Vec::new(alloc);
     for layer in layers {
-        plain.push(plain_layer(alloc, layer)?)?;
+        plain.push(plain_layer(alloc, layer, schemas)?)?;
     }
     Ok(plain)
 }
@@ -192,10 +214,11 @@ fn each_clip(alloc: Global, clips: &[Value]) -> Result<Vec<ClipUse>, Memory>
     Ok(plain)
 }
 
-fn plain_comp(alloc: Global, comp: &Value) -> Result<PlainComp, Memory>
-    ensures { IfOk result (λ plain. plain ≡ plain_comp_of (view comp.now)) }
+fn plain_comp(alloc: Global, comp: &Value, schemas: &[EffectSchema]) -> Result<PlainComp, Memory>
+    requires { length schemas.now ≤ 65536 }
+    ensures { IfOk result (λ plain. plain ≡ plain_comp_of schemas.now (view comp.now)) }
 {
-    let layers = each_layer(alloc, items_of(comp, "layers"))?;
+    let layers = each_layer(alloc, items_of(comp, "layers"), schemas)?;
     Ok(PlainComp {
         width: count_of(comp, "width", 0),
         height: count_of(comp, "height", 0),
@@ -205,23 +228,33 @@ fn plain_comp(alloc: Global, comp: &Value) -> Result<PlainComp, Memory>
     })
 }
 
-fn each_comp(alloc: Global, comps: &[Value]) -> Result<Vec<PlainComp>, Memory>
-    ensures { IfOk result (λ plain. plain.items ≡ map (λ comp. plain_comp_of (view comp)) comps.now) }
+fn each_comp(
+    alloc: Global,
+    comps: &[Value],
+    schemas: &[EffectSchema],
+) -> Result<Vec<PlainComp>, Memory>
+    requires { length schemas.now ≤ 65536 }
+    ensures { IfOk result (λ plain. plain.items ≡ map (λ comp. plain_comp_of schemas.now (view comp)) comps.now) }
 {
     let mut plain = Vec::new(alloc);
     for comp in comps {
-        plain.push(plain_comp(alloc, comp)?)?;
+        plain.push(plain_comp(alloc, comp, schemas)?)?;
     }
     Ok(plain)
 }
 
-/// The plain parts of a project, whatever the value is: a part that is absent or out of form counts as one that no rule
-/// accepts, or as its default.
-pub(crate) fn plain_project(alloc: Global, top: &Value) -> Result<PlainProject, Memory>
-    ensures { IfOk result (λ plain. plain ≡ plain_of_data (view top.now)) }
+/// The plain parts of a project, whatever the value is, where its effects are those of a set with these schemas: a part that is
+/// absent or out of form counts as one that no rule accepts, or as its default.
+pub(crate) fn plain_project(
+    alloc: Global,
+    top: &Value,
+    schemas: &[EffectSchema],
+) -> Result<PlainProject, Memory>
+    requires { length schemas.now ≤ 65536 }
+    ensures { IfOk result (λ plain. plain ≡ plain_of_data schemas.now (view top.now)) }
 {
     let clips = each_clip(alloc, items_of(top, "clips"))?;
-    let comps = each_comp(alloc, items_of(top, "comps"))?;
+    let comps = each_comp(alloc, items_of(top, "comps"), schemas)?;
     Ok(PlainProject {
         depth: count_of(top, "depth", 0),
         root: count_of(top, "root", NO_INDEX),

@@ -1,12 +1,13 @@
-ghost use Rattle.std.specs.Prelude.{◌≡◌, Some, unwrap_or};
+ghost use Rattle.std.specs.Prelude.{◌≡◌, ◌<◌, Some, length, unwrap_or, IfSome};
 ghost use Rattle.serde_json.specs.View.{view};
 ghost use Rattle.project_model.specs.Constant.{constant_key, zero_time};
-ghost use Rattle.project_json.specs.Reads.{time_from, time_in, kind_named, kind_in, mode_in, matte_in, key_in, solid_from_items, solid_in, index_in, source_in, no_solid};
+ghost use Rattle.project_json.specs.Reads.{time_from, time_in, kind_named, kind_in, mode_in, matte_in, key_in, solid_from_items, solid_in, index_in, source_in, no_solid, fx_named, fx_kind_in};
 ghost use Rattle.project_json.specs.Parts.{items_in};
+ghost use Rattle.project_json.specs.PlainData.{fx_kind_of};
 
 use crate::parts::{count_in, items_in, whole_in};
 use param_stream::{Ease, Keyframe};
-use project_model::Item;
+use project_model::{EffectSchema, Item};
 use rational_time::Time;
 use serde_json::Value;
 use track_matte::{Matte, matte_of_name};
@@ -27,6 +28,9 @@ pub(crate) const NO_SOLID: Item = Item::Solid {
 
 /// An index that names nothing: no project has so many clips or compositions.
 pub(crate) const NO_INDEX: u32 = 4_294_967_295;
+
+/// The greatest kind, for what names no effect of the set.
+pub(crate) const NO_KIND: u16 = 65_535;
 
 fn time_from(value: i64, scale: u32) -> Option<Time>
     ensures { result ≡ time_from (Some value) (Some scale) }
@@ -131,7 +135,7 @@ fn solid_in(value: &Value) -> Item
 }
 
 /// A whole number from 0 to 2^32-1, or an index that names nothing.
-fn index_in(value: &Value) -> u32
+pub(crate) fn index_in(value: &Value) -> u32
     ensures { result ≡ index_in (view value.now) }
 {
     count_in(value).unwrap_or(NO_INDEX)
@@ -150,4 +154,30 @@ pub(crate) fn source_in(value: &Value) -> Item
     } else {
         NO_SOLID
     }
+}
+
+/// The kind of this name, which is its place in the set.
+fn fx_named(name: &str, schemas: &[EffectSchema]) -> Option<usize>
+    ensures named { result ≡ fx_named schemas.now name.now }
+    ensures known { IfSome result (λ kind. kind < length schemas.now) }
+{
+    schemas
+        .iter()
+        .position(|schema| name == schema.name.as_str())
+}
+
+/// The name of an effect of the set.
+fn fx_kind_in(value: &Value, schemas: &[EffectSchema]) -> Option<usize>
+    ensures named { result ≡ fx_kind_in schemas.now (view value.now) }
+    ensures known { IfSome result (λ kind. kind < length schemas.now) }
+{
+    fx_named(value.as_str()?, schemas)
+}
+
+/// The kind of the effect that `effect` names.
+pub(crate) fn fx_kind_of(fx: &Value, schemas: &[EffectSchema]) -> Option<usize>
+    ensures named { result ≡ fx_kind_of schemas.now (view fx.now) }
+    ensures known { IfSome result (λ kind. kind < length schemas.now) }
+{
+    fx_kind_in(fx.get("effect")?, schemas)
 }

@@ -3,9 +3,9 @@ ghost use Rattle.std.specs.List.{list_all};
 ghost use Rattle.serde_json.specs.Find.{get};
 ghost use Rattle.serde_json.specs.View.{view};
 ghost use Rattle.project_model.specs.Bounds.{is_among, most_keys};
-ghost use Rattle.project_json.specs.Parts.{where_there, names_in};
+ghost use Rattle.project_json.specs.Parts.{where_there, names_in, items_in};
 ghost use Rattle.project_json.specs.PlainData.{items_of};
-ghost use Rattle.project_json.specs.FormRules.{are_key_parts, is_keyframe, is_stream, is_time, has_frame, has_time_second, key_has_time, is_source, source_names};
+ghost use Rattle.project_json.specs.Shapes.{are_key_parts, is_keyframe, is_stream, is_time, has_frame, has_time_second, key_has_time, is_source, source_names};
 
 use crate::parts::{has_only, is_among, items_in, items_of, name_count};
 use crate::reads::{kind_in, time_in};
@@ -31,11 +31,18 @@ fn are_keyframes(items: &[Value]) -> bool
 }
 
 /// A number, or an array of 1 to 4,096 keyframes.
-pub(crate) fn is_stream(value: &Value) -> bool
+fn is_stream(value: &Value) -> bool
     ensures { result ≡ is_stream (view value.now) }
 {
     let items = items_in(value);
     value.is_number() || is_among(1, MOST_KEYS, items.len()) && are_keyframes(items)
+}
+
+/// Each of them is a stream.
+pub(crate) fn are_streams(items: &[Value]) -> bool
+    ensures { result ≡ list_all (λ item. is_stream (view item)) items.now }
+{
+    items.iter().all(|item| is_stream(item))
 }
 
 /// The member of that name is a stream, where it is there.
@@ -88,6 +95,20 @@ fn have_times(items: &[Value]) -> bool
     ensures { result ≡ list_all (λ item. key_has_time (view item)) items.now }
 {
     items.iter().all(|item| key_has_time(item))
+}
+
+/// The keyframes of a stream have times.
+fn stream_has_times(value: &Value) -> bool
+    ensures { result ≡ list_all key_has_time (items_in (view value.now)) }
+{
+    have_times(items_in(value))
+}
+
+/// The keyframes of each of them have times.
+pub(crate) fn streams_have_times(items: &[Value]) -> bool
+    ensures { result ≡ list_all (λ item. list_all key_has_time (items_in (view item))) items.now }
+{
+    items.iter().all(|item| stream_has_times(item))
 }
 
 /// The keyframes of the stream in the member of that name have times.

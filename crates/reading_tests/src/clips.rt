@@ -1,9 +1,8 @@
 //! Rules on clips, by their numbers. What is broken in a clip is broken in the project outside its compositions.
 
 use crate::edits::{
-    Edit, ONE_CLIP, Pair, Row, TWO_CLIPS, answers, reads, refuses, refuses_pairs, rule,
+    Edit, ONE_CLIP, Pair, Row, TWO_CLIPS, answers, read, reads, refuses, refuses_pairs, rule,
 };
-use project_json::read_project;
 use project_model::{ClipUse, Item, Place, Project};
 use rational_time::Time;
 use std::alloc::Global;
@@ -399,7 +398,7 @@ fn sources(project: &Project, index: usize) -> Option<(Item, Item)> {
 
 #[test]
 fn clips_are_read(rt: HostRuntime) -> Result<(), Fail> {
-    let project = read_project(rt.alloc(), TWO_CLIPS.as_bytes())?;
+    let project = read(rt.alloc(), TWO_CLIPS)?;
     let [first, second] = project.clips.as_slice() else {
         return Err("two clips")?;
     };
@@ -424,7 +423,7 @@ fn clips_are_read(rt: HostRuntime) -> Result<(), Fail> {
 
 #[test]
 fn one_clip_is_read(rt: HostRuntime) -> Result<(), Fail> {
-    let project = read_project(rt.alloc(), ONE_CLIP.as_bytes())?;
+    let project = read(rt.alloc(), ONE_CLIP)?;
     let [clip] = project.clips.as_slice() else {
         return Err("one clip")?;
     };
@@ -437,7 +436,7 @@ const TWO_FORMS: &[Pair] = &[
     (
         ("\"a.afr\"", "{\"effects\":0}"),
         ("\"frames\":7", "\"frames\":7.5"),
-        0,
+        1,
         Place::Project,
     ),
     (

@@ -1,5 +1,6 @@
 //! Small projects, edits of their texts, and what becomes of them.
 
+use crate::effect_set;
 use project_json::{ProjectError, read_project};
 use project_model::{Place, Project};
 use std::alloc::Global;
@@ -34,6 +35,11 @@ pub(crate) const NESTED: &str =
 pub(crate) const THREE_COMPS: &str =
     "{\"version\":1,\"depth\":8,\"root\":0,\"comps\":[{\"width\":1,\"height\":1,\"frame\":[1,24],\"frames\":1,\"layers\":[{\"source\":{\"comp\":1}}]},{\"width\":2,\"height\":1,\"frame\":[1,24],\"frames\":1,\"layers\":[{\"source\":{\"comp\":2}}]},{\"width\":3,\"height\":1,\"frame\":[1,24],\"frames\":1,\"layers\":[{\"source\":{\"solid\":[1,1,9,9,9,9]}},{\"source\":{\"solid\":[1,1,8,8,8,8]}}]}]}";
 
+/// One composition of two layers: the second has an effect with two parameters, one of them of two keyframes, one that names the
+/// first layer, and one with six bytes of sequence data.
+pub(crate) const EFFECTS: &str =
+    "{\"version\":1,\"depth\":8,\"root\":0,\"comps\":[{\"width\":2,\"height\":1,\"frame\":[1,24],\"frames\":1,\"layers\":[{\"source\":{\"solid\":[2,1,255,10,20,30]}},{\"source\":{\"solid\":[7,1,9,8,7,6]},\"effects\":[{\"effect\":\"Offset\",\"params\":[3,[[-4,[0,1],\"linear\"],[5,[1,12],\"ease\"]]]},{\"effect\":\"Displace\",\"params\":[1,2],\"layers\":[0]},{\"effect\":\"Palette\",\"sequence\":\"000000FFffff\"}]}]}]}";
+
 /// What stands in a text, and what takes its place.
 pub(crate) type Edit = (&'static str, &'static str);
 
@@ -49,6 +55,17 @@ pub(crate) fn edited(alloc: Global, text: &str, old: &str, new: &str) -> Result<
     Ok(format!(in alloc; "{front}{new}{back}")?)
 }
 
+/// The project of these bytes, with the effects of the set.
+pub(crate) fn read_bytes(alloc: Global, bytes: &[u8]) -> Result<Project, ProjectError> {
+    let schemas = effect_set(alloc)?;
+    read_project(alloc, bytes, &schemas)
+}
+
+/// The project of the text.
+pub(crate) fn read(alloc: Global, text: &str) -> Result<Project, ProjectError> {
+    read_bytes(alloc, text.as_bytes())
+}
+
 /// The project of the text, where the first `old` is `new`.
 pub(crate) fn read_edited(
     alloc: Global,
@@ -57,12 +74,12 @@ pub(crate) fn read_edited(
     new: &str,
 ) -> Result<Project, Fail> {
     let text = edited(alloc, text, old, new)?;
-    Ok(read_project(alloc, text.as_bytes())?)
+    Ok(read(alloc, text.as_str())?)
 }
 
 /// Why the text is refused.
 pub(crate) fn refusal(alloc: Global, text: &str) -> Option<ProjectError> {
-    read_project(alloc, text.as_bytes()).err()
+    read(alloc, text).err()
 }
 
 /// The refusal by the rule of this number, at this place.

@@ -1,9 +1,10 @@
 //! Rules on a project's form, by their numbers.
 
 use crate::edits::{
-    ONE_LAYER, Pair, Row, TWO_LAYERS, answers, refusal, refuses, refuses_pairs, repeated, rule,
+    ONE_LAYER, Pair, Row, TWO_LAYERS, answers, read_bytes, refusal, refuses, refuses_pairs,
+    repeated, rule,
 };
-use project_json::{ProjectError, read_project};
+use project_json::ProjectError;
 use project_model::Place;
 use std::alloc::Global;
 use std::test::Fail;
@@ -23,7 +24,7 @@ fn other_bytes_are_not_json(rt: HostRuntime) -> Result<(), Fail> {
         answers(&rt, rt.alloc(), TWO_LAYERS, (old, new), not_json)?;
     }
     let no_text = [b'"', 0xff, b'"'];
-    assert_eq!(rt; read_project(rt.alloc(), &no_text).err(), not_json);
+    assert_eq!(rt; read_bytes(rt.alloc(), &no_text).err(), not_json);
     Ok(())
 }
 
@@ -55,8 +56,8 @@ fn layers_have_a_bound(rt: HostRuntime) -> Result<(), Fail> {
     answers(&rt, rt.alloc(), ONE_LAYER, (layer, layers.as_str()), want)
 }
 
-// So many keyframes of a stream, a second apart.
-fn keyframes(alloc: Global, count: u32) -> Result<String, Fail> {
+/// So many keyframes of a stream, a second apart.
+pub(crate) fn keyframes(alloc: Global, count: u32) -> Result<String, Fail> {
     let mut text = String::new(alloc);
     for i in 0..count {
         let mark = if i > 0 { "," } else { "" };
@@ -82,22 +83,12 @@ fn keyframes_have_a_bound(rt: HostRuntime) -> Result<(), Fail> {
     Ok(())
 }
 
-/// Effects are not built yet.
-const UNBUILT: &[Row] = &[
-    ("\"start\":[0,1]", "\"effects\":[]", 0),
-    ("{\"version\"", "{\"effects\":0,\"version\"", 0),
-    ("{\"width\"", "{\"effects\":[],\"width\"", 0),
-    ("[2,1,255,10,20,30]", "[[{},{\"x\":[{\"effects\":0}]}]]", 0),
-    ("\"linear\"", "{\"effects\":null}", 0),
-    ("{\"solid\"", "{\"\\u0065ffects\":0,\"solid\"", 0),
-    (TWO_LAYERS, "[[[{\"effects\":1.5}]]]", 0),
-];
-
-/// All other parts pass rule 0.
-const BUILT: &[Row] = &[
-    (TWO_LAYERS, "[[[{\"matte\":1.5}]]]", 1),
+/// Names of parts where they may not stand.
+const OTHER_PARTS: &[Row] = &[
+    (TWO_LAYERS, "[[[{\"effects\":1.5}]]]", 1),
     (TWO_LAYERS, "[[[{\"clip\":1.5}]]]", 1),
     (TWO_LAYERS, "[\"effects\"]", 2),
+    ("{\"version\"", "{\"effects\":[],\"version\"", 2),
     ("{\"version\"", "{\"effect\":[],\"version\"", 2),
     ("{\"version\"", "{\"Effects\":[],\"version\"", 2),
     (TWO_LAYERS, "[{\"depth\":16,\"comps\":[1,2]}]", 2),
@@ -178,8 +169,7 @@ const COMPOSITIONS: &[Row] = &[
 #[test]
 fn rules_broken_in_the_project(rt: HostRuntime) -> Result<(), Fail> {
     let alloc = rt.alloc();
-    refuses(&rt, alloc, TWO_LAYERS, Place::Project, UNBUILT)?;
-    refuses(&rt, alloc, TWO_LAYERS, Place::Project, BUILT)?;
+    refuses(&rt, alloc, TWO_LAYERS, Place::Project, OTHER_PARTS)?;
     refuses(&rt, alloc, TWO_LAYERS, Place::Project, NOT_WHOLE)?;
     refuses(&rt, alloc, TWO_LAYERS, Place::Project, TOP)?;
     refuses(&rt, alloc, TWO_LAYERS, Place::Project, DEPTHS)?;
@@ -195,6 +185,7 @@ const NAMES: &[Row] = &[
     ("\"frames\":1,", "", 6),
     ("\"layers\"", "\"width\"", 6),
     ("{\"width\"", "{\"name\":\"a\",\"width\"", 6),
+    ("{\"width\"", "{\"effects\":[],\"width\"", 6),
     ("\"layers\":[", "\"layers\":[7,", 7),
     ("\"layers\":[", "\"layers\":[{},7,", 7),
 ];
@@ -221,18 +212,20 @@ fn rules_broken_in_a_composition(rt: HostRuntime) -> Result<(), Fail> {
 }
 
 /// Names of parts in a solid.
-const BUILT_IN_A_SOLID: &[Row] = &[
+const IN_A_SOLID: &[Row] = &[
     ("[2,1,255,10,20,30]", "[[{},{\"x\":[{\"mode\":0}]}]]", 27),
     ("[2,1,255,10,20,30]", "[[{},{\"x\":[{\"comp\":0}]}]]", 27),
+    ("[2,1,255,10,20,30]", "[[{},{\"x\":[{\"effects\":0}]}]]", 27),
     ("[2,1,255,10,20,30]", "\"clips\"", 27),
 ];
 
 /// The same in the second layer.
-const BUILT_IN_A_LAYER: &[Row] = &[
+const IN_A_LAYER: &[Row] = &[
     ("\"start\":[0,1]", "\"comps\":[1,2]", 7),
     ("\"start\":[0,1]", "\"effect\":[]", 7),
     ("\"y\":-2", "\"y\":{\"comps\":[1,2]}", 14),
     ("\"y\":-2", "\"y\":\"clip\"", 14),
+    ("\"linear\"", "{\"effects\":null}", 14),
     ("\"start\":[0,1]", "\"mode\":\"effects\"", 31),
     ("\"start\":[0,1]", "\"matte\":\"comp\"", 32),
 ];
@@ -244,6 +237,7 @@ const FIRST_LAYER: &[Row] = &[
     ("{\"solid\":[2,1,255,10,20,30]}", "[2,1,255,10,20,30]", 9),
     ("{\"solid\":[2,1,255,10,20,30]}", "{}", 9),
     ("{\"solid\"", "{\"color\"", 9),
+    ("{\"solid\"", "{\"\\u0065ffects\":0,\"solid\"", 9),
     ("{\"solid\":[2", "{\"clip\":0,\"solid\":[2", 9),
     ("{\"solid\":[2", "{\"comp\":0,\"solid\":[2", 9),
     (
@@ -297,8 +291,8 @@ const TIMES: &[Row] = &[
 #[test]
 fn rules_broken_in_a_layer(rt: HostRuntime) -> Result<(), Fail> {
     let alloc = rt.alloc();
-    refuses(&rt, alloc, TWO_LAYERS, Place::Layer(0, 0), BUILT_IN_A_SOLID)?;
-    refuses(&rt, alloc, TWO_LAYERS, Place::Layer(0, 1), BUILT_IN_A_LAYER)?;
+    refuses(&rt, alloc, TWO_LAYERS, Place::Layer(0, 0), IN_A_SOLID)?;
+    refuses(&rt, alloc, TWO_LAYERS, Place::Layer(0, 1), IN_A_LAYER)?;
     refuses(&rt, alloc, TWO_LAYERS, Place::Layer(0, 0), FIRST_LAYER)?;
     refuses(&rt, alloc, TWO_LAYERS, Place::Layer(0, 1), SECOND_LAYER)?;
     refuses(&rt, alloc, TWO_LAYERS, Place::Layer(0, 1), STREAMS)?;
@@ -309,8 +303,8 @@ fn rules_broken_in_a_layer(rt: HostRuntime) -> Result<(), Fail> {
 const TWO_RULES: &[Pair] = &[
     (
         ("\"version\":1", "\"version\":1.5"),
-        ("\"start\":[0,1]", "\"effects\":[]"),
-        0,
+        ("\"start\":[0,1]", "\"effects\":{}"),
+        1,
         Place::Project,
     ),
     (

@@ -1,11 +1,10 @@
-//! Sources, nested compositions, and the places of what is broken in one of several compositions. Where there are no effects,
-//! no source of 64 compositions has a rank above 126, so no text breaks rule 40.
+//! Sources, nested compositions, and the places of what is broken in one of several compositions. Without effects no source of 64
+//! compositions has a rank above 126, so rule 40 is not broken here.
 
 use crate::edits::{
-    Edit, NESTED, ONE_CLIP, ONE_LAYER, Pair, Row, THREE_COMPS, answers, reads, refusal, refuses,
-    refuses_pairs, repeated, rule,
+    Edit, NESTED, ONE_CLIP, ONE_LAYER, Pair, Row, THREE_COMPS, answers, read, reads, refusal,
+    refuses, refuses_pairs, repeated, rule,
 };
-use project_json::read_project;
 use project_model::{Comp, Item, Layer, Place};
 use rational_time::Time;
 use std::alloc::Global;
@@ -180,7 +179,7 @@ fn only_layer(comp: &Comp) -> Option<&Layer> {
 
 #[test]
 fn a_nested_composition_is_read(rt: HostRuntime) -> Result<(), Fail> {
-    let project = read_project(rt.alloc(), NESTED.as_bytes())?;
+    let project = read(rt.alloc(), NESTED)?;
     assert_eq!(rt;
         (project.depth, project.root, project.base.ticks),
         (8, 1, 24)

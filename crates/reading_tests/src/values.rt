@@ -1,8 +1,7 @@
 //! What is read.
 
-use crate::edits::{Edit, TWO_LAYERS, TWO_PAIRS, read_edited, reads};
+use crate::edits::{EFFECTS, Edit, TWO_LAYERS, TWO_PAIRS, read, read_edited, reads};
 use param_stream::{Ease, Keyframe, Stream};
-use project_json::read_project;
 use project_model::{Collection, Item, Layer, Project};
 use rational_time::Time;
 use std::alloc::Global;
@@ -38,7 +37,7 @@ fn layers(project: &Project) -> &[Layer] {
 
 #[test]
 fn a_composition_is_read(rt: HostRuntime) -> Result<(), Fail> {
-    let project = read_project(rt.alloc(), TWO_LAYERS.as_bytes())?;
+    let project = read(rt.alloc(), TWO_LAYERS)?;
     assert_eq!(rt;
         (project.depth, project.root, project.base.ticks),
         (8, 0, 24)
@@ -53,7 +52,7 @@ fn a_composition_is_read(rt: HostRuntime) -> Result<(), Fail> {
 
 #[test]
 fn a_source_alone_is_read(rt: HostRuntime) -> Result<(), Fail> {
-    let project = read_project(rt.alloc(), TWO_LAYERS.as_bytes())?;
+    let project = read(rt.alloc(), TWO_LAYERS)?;
     let [layer, _] = layers(&project) else {
         return Err("two layers")?;
     };
@@ -80,7 +79,7 @@ fn a_source_alone_is_read(rt: HostRuntime) -> Result<(), Fail> {
 
 #[test]
 fn a_whole_layer_is_read(rt: HostRuntime) -> Result<(), Fail> {
-    let project = read_project(rt.alloc(), TWO_LAYERS.as_bytes())?;
+    let project = read(rt.alloc(), TWO_LAYERS)?;
     let [_, layer] = layers(&project) else {
         return Err("two layers")?;
     };
@@ -106,6 +105,56 @@ fn a_whole_layer_is_read(rt: HostRuntime) -> Result<(), Fail> {
     let keys = [(3, (0, 1), Ease::Hold), (4, (1, 12), Ease::Linear)];
     has_keys(&rt, &layer.x, &keys);
     has_keys(&rt, &layer.y, &[(-2, (0, 1), Ease::Hold)]);
+    Ok(())
+}
+
+#[test]
+fn effects_are_read(rt: HostRuntime) -> Result<(), Fail> {
+    let project = read(rt.alloc(), EFFECTS)?;
+    let [first, second] = layers(&project) else {
+        return Err("two layers")?;
+    };
+    assert_eq!(rt; first.effects.as_slice().len(), 0);
+    let [offset, displace, palette] = second.effects.as_slice() else {
+        return Err("three effects")?;
+    };
+    assert_eq!(rt; (offset.kind, displace.kind, palette.kind), (0, 1, 2));
+    let [dx, dy] = offset.params.as_slice() else {
+        return Err("two parameters")?;
+    };
+    has_keys(&rt, dx, &[(3, (0, 1), Ease::Hold)]);
+    has_keys(
+        &rt,
+        dy,
+        &[(-4, (0, 1), Ease::Linear), (5, (1, 12), Ease::Smooth)],
+    );
+    let [x, y] = displace.params.as_slice() else {
+        return Err("two parameters")?;
+    };
+    has_keys(&rt, x, &[(1, (0, 1), Ease::Hold)]);
+    has_keys(&rt, y, &[(2, (0, 1), Ease::Hold)]);
+    Ok(())
+}
+
+#[test]
+fn layers_and_bytes_of_effects_are_read(rt: HostRuntime) -> Result<(), Fail> {
+    let project = read(rt.alloc(), EFFECTS)?;
+    let [_, layer] = layers(&project) else {
+        return Err("two layers")?;
+    };
+    let [offset, displace, palette] = layer.effects.as_slice() else {
+        return Err("three effects")?;
+    };
+    assert_eq!(rt; offset.layers.as_slice().len(), 0);
+    assert_eq!(rt; displace.layers.as_slice(), [0].as_slice());
+    assert_eq!(rt; palette.layers.as_slice().len(), 0);
+    assert_eq!(rt; offset.sequence.as_slice().len(), 0);
+    assert_eq!(rt; displace.sequence.as_slice().len(), 0);
+    assert_eq!(rt;
+        palette.sequence.as_slice(),
+        [0, 0, 0, 255, 255, 255].as_slice()
+    );
+    assert_eq!(rt; palette.params.as_slice().len(), 0);
     Ok(())
 }
 

@@ -6,4 +6,4 @@ use Rattle.project_json.proofs.places.check_each.Given as goal
 
 abbrev pub invariant-loop-rule : goal.invariant-loop-rule
 invariant-loop-rule l =
-    first_broken number_of (place_of (view l.top)) l.rules ≡ first_broken number_of (place_of (view l.top)) (drop l.rule-index l.rules)
+    first_broken number_of (place_of l.schemas (view l.top)) l.rules ≡ first_broken number_of (place_of l.schemas (view l.top)) (drop l.rule-index l.rules)

@@ -13,13 +13,13 @@ check_each-requires c = indexed_counted (view c.args.top.now)
 
 pub check_each-requires-2 : goal.check_each-requires-2
 check_each-requires-2 c =
-    let p = place_of (view c.args.top.now) in
+    let p = place_of c.args.schemas.now (view c.args.top.now) in
     let first : broken p counted ≡ None = unbroken (broken p counted) c.in_ok-check_each.field-0 (sym c.check_each.ensures ∙ c.in_ok-check_each.was) in
-    indexed_one (view c.args.top.now) first
+    indexed_one c.args.schemas.now (view c.args.top.now) first
 
 pub returns-in_err-check_each-2 : goal.returns-in_err-check_each-2
 returns-in_err-check_each-2 c =
-    let p = place_of (view c.args.top.now) in
+    let p = place_of c.args.schemas.now (view c.args.top.now) in
     let first : broken p counted ≡ None = unbroken (broken p counted) c.in_ok-check_each.field-0 (sym c.check_each.ensures ∙ c.in_ok-check_each.was) in
     let failed : verdict (broken p (Layers ∷ [])) ≡ Err c.in_err-check_each-2.field-0.0 = sym c.check_each-2.ensures ∙ c.in_err-check_each-2.was in
     let given : c.from_residual-in_err-check_each-2.result ≡ Err c.in_err-check_each-2.field-0.0 = grind (arith, common_steps) in
@@ -29,15 +29,15 @@ returns-in_err-check_each-2 c =
 
 pub check_each-requires-3 : goal.check_each-requires-3
 check_each-requires-3 c =
-    let p = place_of (view c.args.top.now) in
+    let p = place_of c.args.schemas.now (view c.args.top.now) in
     let first : broken p counted ≡ None = unbroken (broken p counted) c.in_ok-check_each.field-0 (sym c.check_each.ensures ∙ c.in_ok-check_each.was) in
     let second : broken p (Layers ∷ []) ≡ None =
     unbroken (broken p (Layers ∷ [])) c.in_ok-check_each-2.field-0 (sym c.check_each-2.ensures ∙ c.in_ok-check_each-2.was) in
-    indexed_rest (view c.args.top.now) first second
+    indexed_rest c.args.schemas.now (view c.args.top.now) first second
 
 pub returns : goal.returns
 returns c =
-    let p = place_of (view c.args.top.now) in
+    let p = place_of c.args.schemas.now (view c.args.top.now) in
     let first : broken p counted ≡ None = unbroken (broken p counted) c.in_ok-check_each.field-0 (sym c.check_each.ensures ∙ c.in_ok-check_each.was) in
     let second : broken p (Layers ∷ []) ≡ None =
     unbroken (broken p (Layers ∷ [])) c.in_ok-check_each-2.field-0 (sym c.check_each-2.ensures ∙ c.in_ok-check_each-2.was) in

@@ -6,5 +6,5 @@ pub returns-in-Ok-clause-value : goal.returns-in-Ok-clause-value
 returns-in-Ok-clause-value c = json_of-text c.args.bytes.now c.in-Ok.ensures.ok.0 ∙ c.in-Ok.ensures.ok.1
 
 pub returns-else-is_memory-clause-refused : goal.returns-else-is_memory-clause-refused
-returns-else-is_memory-clause-refused c =
-    project_of-not_json c.args.bytes.now (json_of_none c.args.bytes.now (λ text. c.in-Err.ensures.err (λ memory. true≢false (sym (c.if-is_memory.ensures.1 memory))) text))
+returns-else-is_memory-clause-refused c schemas =
+    project_of-not_json schemas c.args.bytes.now (json_of_none c.args.bytes.now (λ text. c.in-Err.ensures.err (λ memory. true≢false (sym (c.if-is_memory.ensures.1 memory))) text))

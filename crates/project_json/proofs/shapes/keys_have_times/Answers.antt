@@ -2,7 +2,7 @@ use Rattle.std.proofs.Common.{sym, ap, ◌∙◌}
 use Rattle.std.specs.List.{list_all}
 use Rattle.std.proofs.lemmas.List.Folds.{list_all-map}
 use Rattle.serde_json.specs.View.{view}
-use Rattle.project_json.specs.FormRules.{key_has_time}
+use Rattle.project_json.specs.Shapes.{key_has_time}
 use Rattle.project_json.proofs.shapes.keys_have_times.Goals as goal
 
 pub returns : goal.returns

@@ -7,5 +7,5 @@ use Rattle.project_json.proofs.form.FormRule.first_in_comps.Given as goal
 
 abbrev pub invariant-loop-i : goal.invariant-loop-i
 invariant-loop-i l =
-    first_in_comps (items_of (codes "layers")) (λ _ comp. breaks_comp l.self comp) (λ _ _ layer. breaks_layer l.self layer) 0 (map view l.comps)
-    ≡ first_in_comps (items_of (codes "layers")) (λ _ comp. breaks_comp l.self comp) (λ _ _ layer. breaks_layer l.self layer) l.i (map view (drop l.i l.comps))
+    first_in_comps (items_of (codes "layers")) (λ _ comp. breaks_comp l.self comp) (λ _ _ layer. breaks_layer l.schemas l.self layer) 0 (map view l.comps)
+    ≡ first_in_comps (items_of (codes "layers")) (λ _ comp. breaks_comp l.self comp) (λ _ _ layer. breaks_layer l.schemas l.self layer) l.i (map view (drop l.i l.comps))

@@ -6,4 +6,4 @@ use Rattle.project_json.proofs.form.FormRule.first_layer.Given as goal
 
 abbrev pub invariant-loop-i : goal.invariant-loop-i
 invariant-loop-i l =
-    first_from (λ _ layer. breaks_layer l.self layer) 0 (map view l.layers) ≡ first_from (λ _ layer. breaks_layer l.self layer) l.i (map view (drop l.i l.layers))
+    first_from (λ _ layer. breaks_layer l.schemas l.self layer) 0 (map view l.layers) ≡ first_from (λ _ layer. breaks_layer l.schemas l.self layer) l.i (map view (drop l.i l.layers))
