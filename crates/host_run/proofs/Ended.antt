@@ -10,9 +10,11 @@ use Rattle.host_io.specs.declared.cause.SinkError.{SinkError}
 use Rattle.host_io.specs.declared.cause.SinkError.TheVariants as sink_error
 use Rattle.host_io.specs.declared.status.Status.{Status}
 use Rattle.host_io.specs.declared.status.Status.TheVariants as status
+use Rattle.project_model.specs.declared.effect.EffectSchema.{EffectSchema}
+use Rattle.project_model.specs.declared.passing.CheckError.TheVariants.{RuleBroken}
 use Rattle.project_model.specs.declared.plain.PlainProject.{PlainProject}
 use Rattle.project_model.specs.declared.project.Project.{Project}
-use Rattle.project_model.specs.Checked.{breach_in}
+use Rattle.project_model.specs.Checked.{breach_in, Refuses}
 use Rattle.project_model.specs.Plain.{plain_of}
 use Rattle.project_model.specs.Sound.{IsSound}
 use Rattle.project_model.specs.Broken.{breach_of}
@@ -29,6 +31,7 @@ use Rattle.frame_file.specs.Clip.{Pictures}
 use Rattle.scene_meaning.specs.Output.{file, frame_count}
 use Rattle.scene_meaning.specs.Scene.{SceneParts, plain_scene}
 use Rattle.scene_meaning.specs.Shown.{PlainScene}
+use Rattle.host_run.specs.Effects.{known_effects}
 use Rattle.host_run.specs.Found.{Found, IsFoundIn, Refusal, missing, refused, clips_from}
 use Rattle.host_run.specs.Outcome.{Outcome, words_refused, project_too_long, project_refused, clip_refused, span_refused, accepted, outcome, outcome_of_reading, outcome_of_clips, outcome_of_span, last_asked, end_of, output, IsAccepted, is_read_on}
 use Rattle.host_run.specs.Run.{Seen, SeenStore, WorksWell, Fails, IsQuiet, IsNoted, HasEnded, HasRun, calls_of}
@@ -55,15 +58,15 @@ consumes_nothing (Some xs) (Some ys) p = sym p
 -- ---- the outcome
 
 pub short_text : (settings : Settings) (bytes : List ℕ) (found : Found) → length bytes ≤ LONGEST_TEXT
-    → outcome (Some settings) bytes found ≡ outcome_of_reading settings found (project_of bytes)
+    → outcome (Some settings) bytes found ≡ outcome_of_reading settings found (project_of known_effects bytes)
 short_text settings bytes found h =
     let short : nat_lt LONGEST_TEXT (length bytes) ≡ false = grind (arith, nat_tests) in
-    ap (λ b. cond b project_too_long (outcome_of_reading settings found (project_of bytes))) short
+    ap (λ b. cond b project_too_long (outcome_of_reading settings found (project_of known_effects bytes))) short
 
 pub long_text : (settings : Settings) (bytes : List ℕ) (found : Found) → LONGEST_TEXT < length bytes → outcome (Some settings) bytes found ≡ project_too_long
 long_text settings bytes found h =
     let long : nat_lt LONGEST_TEXT (length bytes) ≡ true = grind (arith, nat_tests) in
-    ap (λ b. cond b project_too_long (outcome_of_reading settings found (project_of bytes))) long
+    ap (λ b. cond b project_too_long (outcome_of_reading settings found (project_of known_effects bytes))) long
 
 span_read_on : (b : Bool) (scene : PlainScene) (from to count : ℕ) → IsTrue (is_read_on (cond b (accepted scene from to) (span_refused from to count)))
 span_read_on true scene from to count = refl
@@ -81,21 +84,21 @@ reading_read_on settings found (Ok p) = clips_read_on settings p (clips_from fou
 
 pub short_read_on : (settings : Settings) (bytes : List ℕ) (found : Found) → length bytes ≤ LONGEST_TEXT → IsTrue (is_read_on (outcome (Some settings) bytes found))
 short_read_on settings bytes found h =
-    subst (λ o. IsTrue (is_read_on o)) (sym (short_text settings bytes found h)) (reading_read_on settings found (project_of bytes))
+    subst (λ o. IsTrue (is_read_on o)) (sym (short_text settings bytes found h)) (reading_read_on settings found (project_of known_effects bytes))
 
 -- what a text that was read to its end comes to
-pub outcome_read : (settings : Settings) (bytes : List ℕ) (found : Found) (r : Result PlainProject ProjectError) → length bytes ≤ LONGEST_TEXT → project_of bytes ≡ r
+pub outcome_read : (settings : Settings) (bytes : List ℕ) (found : Found) (r : Result PlainProject ProjectError) → length bytes ≤ LONGEST_TEXT → project_of known_effects bytes ≡ r
     → outcome (Some settings) bytes found ≡ outcome_of_reading settings found r
 outcome_read settings bytes found r h e = short_text settings bytes found h ∙ ap (outcome_of_reading settings found) e
 
 -- and with the clips of its project
 pub outcome_loaded : (settings : Settings) (bytes : List ℕ) (found : Found) (p : Project) (r : Result (List Pictures) Refusal) → length bytes ≤ LONGEST_TEXT
-    → project_of bytes ≡ Ok (plain_of p) → clips_from found 0 p.clips ≡ r → outcome (Some settings) bytes found ≡ outcome_of_clips settings (plain_of p) r
+    → project_of known_effects bytes ≡ Ok (plain_of p) → clips_from found 0 p.clips ≡ r → outcome (Some settings) bytes found ≡ outcome_of_clips settings (plain_of p) r
 outcome_loaded settings bytes found p r h e f = outcome_read settings bytes found (Ok (plain_of p)) h e ∙ ap (outcome_of_clips settings (plain_of p)) f
 
 -- and with its scene
 pub outcome_of_scene : (settings : Settings) (bytes : List ℕ) (found : Found) (p : Project) (scene : SceneParts) → length bytes ≤ LONGEST_TEXT
-    → project_of bytes ≡ Ok (plain_of p) → scene.project ≡ p → clips_from found 0 p.clips ≡ Ok scene.clips
+    → project_of known_effects bytes ≡ Ok (plain_of p) → scene.project ≡ p → clips_from found 0 p.clips ≡ Ok scene.clips
     → outcome (Some settings) bytes found ≡ outcome_of_span (plain_scene scene) settings.from (last_asked settings (plain_of scene.project))
 outcome_of_scene settings bytes found p scene h e same f =
     outcome_loaded settings bytes found p (Ok scene.clips) h e f
@@ -114,24 +117,30 @@ no_json : {T : Type 0} (project : PlainProject) → Err project_error.NotJson �
 no_json project h = absurd (cc)
 
 -- what was read as a project breaks no rule
-plain_is_kept : (bytes : List ℕ) (project : PlainProject) → project_of bytes ≡ Ok project → breach_of project ≡ None
+plain_is_kept : (bytes : List ℕ) (project : PlainProject) → project_of known_effects bytes ≡ Ok project → breach_of known_effects project ≡ None
 plain_is_kept bytes project read =
     let kept =
-    elim (json_of bytes) as (λ o. checked o ≡ Ok project → breach_of project ≡ None) [
+    elim (json_of bytes) as (λ o. checked known_effects o ≡ Ok project → breach_of known_effects project ≡ None) [
       | None ↦ λ h. no_json project h
       | Some d ↦ λ h.
-          let k = judged_kept (data_breach d) (plain_of_data d) project h in
-          subst (λ p. breach_of p ≡ None) k.1 (second_kept (form_breach d) (breach_of (plain_of_data d)) k.0)
+          let k = judged_kept (data_breach known_effects d) (plain_of_data known_effects d) project h in
+          subst (λ p. breach_of known_effects p ≡ None) k.1 (second_kept (form_breach known_effects d) (breach_of known_effects (plain_of_data known_effects d)) k.0)
     ] in
     kept read
 
-pub read_is_kept : (bytes : List ℕ) (p : Project) → project_of bytes ≡ Ok (plain_of p) → IsSound p → breach_in p ≡ None
-read_is_kept bytes p read sound = sound_based p sound ∙ plain_is_kept bytes (plain_of p) read
+pub read_is_kept : (bytes : List ℕ) (p : Project) → project_of known_effects bytes ≡ Ok (plain_of p) → IsSound p → breach_in known_effects p ≡ None
+read_is_kept bytes p read sound = sound_based known_effects p sound ∙ plain_is_kept bytes (plain_of p) read
+
+-- a project that breaks no rule of such a set is not refused by a check
+pub not_refused : (schemas : List EffectSchema) (project : Project) (rule : ℕ) (comp layer : Option ℕ) → schemas ≡ known_effects
+    → breach_in known_effects project ≡ None → Refuses (RuleBroken rule comp layer) (breach_in schemas project) → ⊥
+not_refused schemas project rule comp layer same passed refuses =
+    subst (Refuses (RuleBroken rule comp layer)) (ap (λ s. breach_in s project) same ∙ passed) refuses
 
 -- ---- the ends of the steps
 
 pub read_refused : (e : ProjectError) (bytes : List ℕ) (source : Seen) → Consumes source.before source.now bytes → IsWhole bytes source
-    → IsRefusal e (project_of bytes) → HasRead (Err (ending_of_project e)) source
+    → IsRefusal e (project_of known_effects bytes) → HasRead (Err (ending_of_project e)) source
 read_refused project_error.NotJson bytes source taken whole refusal = record { bytes = bytes; taken = taken; reads = (whole, refusal) }
 read_refused (project_error.Rule number comp layer) bytes source taken whole refusal =
     record { bytes = bytes; taken = taken; reads = (whole, (comp, layer, refusal)) }
@@ -468,7 +477,7 @@ text_not_words false settings found (Ok p) h = clips_not_words settings p (clips
 words_whatever : (asked : Option Settings) (bytes all : List ℕ) (found : Found) → Err ending.Words ≡ end_of (outcome asked bytes found)
     → Err ending.Words ≡ end_of (outcome asked all found)
 words_whatever None bytes all found h = refl
-words_whatever (Some settings) bytes all found h = absurd (text_not_words _ settings found (project_of bytes) h)
+words_whatever (Some settings) bytes all found h = absurd (text_not_words _ settings found (project_of known_effects bytes) h)
 
 -- a text is too long whatever follows
 span_not_long : (b : Bool) (scene : PlainScene) (from to count : ℕ) → Err ending.ProjectTooLong ≡ end_of (cond b (accepted scene from to) (span_refused from to count)) → ⊥
@@ -492,7 +501,7 @@ long_whatever : (asked : Option Settings) (bytes : List ℕ) (found : Found) →
     → (LONGEST_TEXT < length bytes) × ((all : List ℕ) → LONGEST_TEXT < length all → Err ending.ProjectTooLong ≡ end_of (outcome asked all found))
 long_whatever None bytes found h = absurd (cc)
 long_whatever (Some settings) bytes found h =
-    (ltb-true LONGEST_TEXT (length bytes) (text_long _ settings found (project_of bytes) h), λ all more. sym (ap end_of (long_text settings all found more)))
+    (ltb-true LONGEST_TEXT (length bytes) (text_long _ settings found (project_of known_effects bytes) h), λ all more. sym (ap end_of (long_text settings all found more)))
 
 answers_told : (o : Outcome) (end : Result (Unit {0}) Ending) (s : Status) → (s ≡ status_of_end end) ⊎ (s ≡ status.Memory) → end ≡ end_of o → Answers o s
 answers_told o end s (inl is) e = inl (is ∙ ap status_of_end e)

@@ -5,6 +5,7 @@ use Rattle.project_json.specs.declared.error.ProjectError.{ProjectError}
 use Rattle.project_json.specs.declared.error.ProjectError.TheVariants as project
 use Rattle.project_json.specs.Reading.{project_of}
 use Rattle.frame_file.specs.Clip.{Pictures}
+use Rattle.host_run.specs.Effects.{known_effects}
 use Rattle.host_run.specs.declared.input.TheConstants.{LONGEST_TEXT}
 use Rattle.scene_meaning.specs.Shown.{PlainScene}
 use Rattle.scene_meaning.specs.Output.{file, frame_count}
@@ -46,7 +47,7 @@ outcome_of_reading settings found (Ok project) = outcome_of_clips settings proje
 
 abbrev pub outcome_of_text : Settings → List ℕ → Found → Outcome
 outcome_of_text settings bytes found =
-    if nat_lt LONGEST_TEXT (length bytes) then project_too_long else outcome_of_reading settings found (project_of bytes)
+    if nat_lt LONGEST_TEXT (length bytes) then project_too_long else outcome_of_reading settings found (project_of known_effects bytes)
 
 -- of the settings, none where the words are refused, the bytes, and what was found of the clips
 abbrev pub outcome : Option Settings → List ℕ → Found → Outcome

@@ -7,6 +7,7 @@ use Rattle.host_io.specs.declared.status.Status.TheVariants as status
 use Rattle.host_io.specs.Clips.{ClipMap}
 use Rattle.project_model.specs.declared.plain.PlainProject.{PlainProject}
 use Rattle.project_json.specs.Reading.{project_of}
+use Rattle.host_run.specs.Effects.{known_effects}
 use Rattle.host_run.specs.Ending.{status_of_end, note_of_end}
 use Rattle.host_run.specs.Found.{Found, IsFoundIn, IsReached}
 use Rattle.host_run.specs.Outcome.{Outcome, outcome, end_of, output, IsAccepted, is_read_on}
@@ -71,7 +72,7 @@ pub record IsAsked (asked : Option Settings) (bytes : List ℕ) (found : Found) 
   pub words : asked ≡ Some settings
   pub short : length bytes ≤ LONGEST_TEXT
   pub project : PlainProject
-  pub read : project_of bytes ≡ Ok project
+  pub read : project_of known_effects bytes ≡ Ok project
   pub reached : IsReached found project.clips name
 
 -- The cause of the end: what the words, the bytes and the clips come to, or a fault that was counted, or want of memory. A source

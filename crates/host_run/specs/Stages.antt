@@ -8,6 +8,7 @@ use Rattle.project_model.specs.Sound.{IsSound}
 use Rattle.project_json.specs.Reading.{project_of}
 use Rattle.project_json.specs.declared.error.ProjectError.TheVariants as project
 use Rattle.scene_meaning.specs.Output.{frame_count}
+use Rattle.host_run.specs.Effects.{known_effects}
 use Rattle.host_run.specs.Outcome.{accepted, span_refused, outcome_of_span, last_asked}
 use Rattle.scene_meaning.specs.Scene.{SceneParts}
 use Rattle.scene_meaning.specs.Shown.{PlainScene}
@@ -27,10 +28,10 @@ pub record IsWhole (bytes : List ℕ) (source : Seen) : Type 0 where
 
 -- what the bytes that were taken are read as, or why not all were taken
 abbrev pub Reads : Result Project Ending → List ℕ → Seen → Type 0
-Reads (Ok p) bytes source = IsWhole bytes source × (project_of bytes ≡ Ok (plain_of p)) × IsSound p
-Reads (Err ending.NotJson) bytes source = IsWhole bytes source × (project_of bytes ≡ Err project.NotJson)
+Reads (Ok p) bytes source = IsWhole bytes source × (project_of known_effects bytes ≡ Ok (plain_of p)) × IsSound p
+Reads (Err ending.NotJson) bytes source = IsWhole bytes source × (project_of known_effects bytes ≡ Err project.NotJson)
 Reads (Err (ending.Rule number)) bytes source =
-    IsWhole bytes source × ((comp : Option ℕ) × (layer : Option ℕ) × (project_of bytes ≡ Err (project.Rule number comp layer)))
+    IsWhole bytes source × ((comp : Option ℕ) × (layer : Option ℕ) × (project_of known_effects bytes ≡ Err (project.Rule number comp layer)))
 Reads (Err ending.ReadFault) bytes source = Fails source × (length bytes ≤ LONGEST_TEXT)
 Reads (Err ending.ProjectTooLong) bytes source = WorksWell source × (LONGEST_TEXT < length bytes)
 Reads (Err ending.Memory) bytes source = WorksWell source

@@ -4,10 +4,12 @@ ghost use Rattle.project_model.specs.Checked.{breach_in};
 ghost use Rattle.project_model.specs.Nesting.{ranks_of};
 ghost use Rattle.project_model.specs.Plain.{plain_of};
 ghost use Rattle.project_model.specs.Sound.{IsSound};
+ghost use Rattle.host_run.specs.Effects.{known_effects};
 ghost use Rattle.host_run.specs.Ending.{IsOneOf, ending_of_clip, ending_of_loading, name_at};
 ghost use Rattle.host_run.specs.Run.{seen_store};
 ghost use Rattle.host_run.specs.Stages.{HasLoaded};
 
+use crate::effects::known_effects;
 use crate::notes::Ending;
 use frame_file::{ClipError, LoadError, load_clips};
 use host_io::{ClipStore, Memory};
@@ -50,10 +52,10 @@ impl Ending {
 
 /// The ranks of a project that keeps the rules.
 fn ranks_of(alloc: Global, project: &Project) -> Result<Ranks, Memory>
-    requires { breach_in project.now ≡ None }
+    requires { breach_in known_effects project.now ≡ None }
     ensures { IfOk result (λ ranks. ranks ≡ ranks_of (plain_of project.now)) }
 {
-    match check(alloc, project) {
+    match check(alloc, project, known_effects()) {
         Ok(ranks) => Ok(ranks),
         Err(refusal) => match refusal {
             CheckError::Memory => Err(Memory),
@@ -69,7 +71,7 @@ pub(crate) fn read_clips<C: ClipStore>(
     clips: &mut C,
 ) -> Result<Scene, Ending>
     requires sound { IsSound project }
-    requires passed { breach_in project ≡ None }
+    requires passed { breach_in known_effects project ≡ None }
     ensures loaded { HasLoaded project result (seen_store C.clips C.faults clips.old clips.new) }
     ensures kept { C.clips clips.new ≡ C.clips clips.old }
 {

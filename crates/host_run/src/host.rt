@@ -7,6 +7,7 @@ ghost use Rattle.host_run.specs.Stages.{HasRead, HasSpan, InRoot};
 ghost use Rattle.host_run.specs.Words.{words_of};
 
 use crate::clips::read_clips;
+use crate::effects::known_effects;
 use crate::input::{ReadError, read_to_end};
 use crate::notes::{Ending, note};
 use crate::settings::Settings;
@@ -68,7 +69,7 @@ fn read_input<S: Source>(alloc: Global, source: &mut S) -> Result<Project, Endin
         Ok(bytes) => bytes,
         Err(error) => return Err(Ending::of_reading(error)),
     };
-    match read_project(alloc, &bytes) {
+    match read_project(alloc, &bytes, known_effects()) {
         Ok(project) => Ok(project),
         Err(error) => Err(Ending::of_project(error)),
     }
@@ -130,7 +131,8 @@ fn render<S: Source, C: ClipStore, K: Sink>(
 /// - `Words`: the words are no settings (see [`crate::read_words`]); nothing is read.
 /// - `ReadFault`: the source failed.
 /// - `ProjectTooLong`: there are more than 67,108,864 bytes, and no read of them failed.
-/// - `Project`: the bytes are not JSON, or not a project (see [`project_json::read_project`]).
+/// - `Project`: the bytes are not JSON, or not a project (see [`project_json::read_project`]). Effects are not drawn yet, so the effect
+///   set is empty: a layer with an effect breaks rule 11, where it breaks no rule with a lesser number.
 /// - `Clip`: a clip is missing or its bytes are refused (see [`frame_file::load_clips`]), and no call of the store failed before.
 /// - `ClipFault`: the store failed at a clip; none before it is missing or refused.
 /// - `Span`: the first frame that is asked for is behind the last, or the last is not in the root.

@@ -3,6 +3,7 @@
 
 mod arguments;
 mod clips;
+mod effects;
 mod host;
 mod input;
 mod laws;

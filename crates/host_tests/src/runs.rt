@@ -39,6 +39,10 @@ const NO_MODE: &[u8] =
 const NO_LAYER_ABOVE: &[u8] =
     b"{\"version\":1,\"depth\":8,\"root\":0,\"comps\":[{\"width\":1,\"height\":1,\"frame\":[1,24],\"frames\":1,\"layers\":[{\"matte\":\"Luma\",\"source\":{\"solid\":[1,1,255,1,2,3]}}]}]}";
 
+/// A layer with an effect, which are not drawn yet.
+const AN_EFFECT: &[u8] =
+    b"{\"version\":1,\"depth\":8,\"root\":0,\"comps\":[{\"width\":1,\"height\":1,\"frame\":[1,24],\"frames\":1,\"layers\":[{\"source\":{\"solid\":[1,1,255,1,2,3]},\"effects\":[{\"effect\":\"Invert\",\"params\":[0]}]}]}]}";
+
 /// What a run over memory ended with and wrote.
 #[derive(Drop)]
 struct Ran {
@@ -154,7 +158,7 @@ fn words_are_settings_or_refused(rt: HostRuntime) -> Result<(), Fail> {
 #[test]
 fn refusals_write_a_line_and_no_file(rt: HostRuntime) -> Result<(), Fail> {
     let alloc = rt.alloc();
-    let cases: [(&str, &[u8], Status, &str); 12] = [
+    let cases: [(&str, &[u8], Status, &str); 13] = [
         ("", b"[", Status::Project, "afhost: project is not JSON\n"),
         ("", b"", Status::Project, "afhost: project is not JSON\n"),
         ("", b"[1.5]", Status::Project, "afhost: project rule 1\n"),
@@ -165,6 +169,7 @@ fn refusals_write_a_line_and_no_file(rt: HostRuntime) -> Result<(), Fail> {
             Status::Project,
             "afhost: project rule 33\n",
         ),
+        ("", AN_EFFECT, Status::Project, "afhost: project rule 11\n"),
         (
             "--from|1",
             TWO_PIXELS,

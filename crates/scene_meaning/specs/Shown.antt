@@ -17,7 +17,7 @@ use Rattle.project_model.specs.declared.clip.ClipUse.{ClipUse}
 use Rattle.project_model.specs.declared.item.Item.{Item}
 use Rattle.project_model.specs.declared.item.Item.TheVariants.{Solid, Clip, Comp}
 use Rattle.project_model.specs.declared.node.NodeId.{NodeId}
-use Rattle.project_model.specs.declared.node.NodeId.TheVariants.{Source, Stack}
+use Rattle.project_model.specs.declared.node.NodeId.TheVariants.{Source, Fx, Stack}
 use Rattle.project_model.specs.declared.plain.PlainLayer.{PlainLayer}
 use Rattle.project_model.specs.declared.plain.PlainComp.{PlainComp}
 use Rattle.project_model.specs.declared.plain.PlainProject.{PlainProject}
@@ -185,11 +185,13 @@ shown scene = shown_in (length scene.project.comps) scene
 
 -- ---- nodes
 
--- the plane of a node at a tick: of a layer's source, or of what a composition shows
+-- The plane of a node at a tick: of a layer's source, or of what a composition shows. Effects are not drawn yet, and no project that
+-- the program reads has one.
 abbrev pub plane : PlainScene → NodeId → ℤ → Plane
 plane scene (Source comp layer) t =
     option_map_or (λ here. source_plane (sources_of scene (shown scene)) here t)
     (slice_get (option_map_or (λ here. here.layers) (slice_get scene.project.comps comp) []) layer) nothing
+plane scene (Fx comp layer index) t = nothing
 plane scene (Stack comp) t = comp_plane (shown scene) comp (slice_get scene.project.comps comp) t
 
 -- ---- laws

@@ -63,6 +63,7 @@ one_solid frames out x opacity = record {
       opacity = constant opacity;
       x = x;
       y = constant (pos 0);
+      effects = [];
     } ∷ [];
   } ∷ [];
 }
@@ -102,6 +103,7 @@ one_pixel mode kind opacity item = record {
   opacity = constant opacity;
   x = constant (pos 0);
   y = constant (pos 0);
+  effects = [];
 }
 
 -- one pixel by one, in one frame
@@ -171,6 +173,7 @@ begun_at value item = record {
   opacity = constant (pos 10000);
   x = constant (pos 0);
   y = constant (pos 0);
+  effects = [];
 }
 
 -- composition 1 nests composition 0 from its frame 2 on

@@ -1,5 +1,6 @@
 use Rattle.std.proofs.Common.{◌≤◌, length, Err, subst, sym, arith}
 use Rattle.std.specs.Io.KnownBytes.{Consumes}
+use Rattle.project_json.specs.Reading.{project_of, IsRefusal}
 use Rattle.host_run.specs.Run.{Seen, seen_of}
 use Rattle.host_run.specs.Stages.{HasRead, IsWhole}
 use Rattle.host_run.specs.declared.input.TheConstants.{LONGEST_TEXT}
@@ -16,4 +17,4 @@ returns g c =
     (read_refused c.in-Err-read_project.error bytes source
     (subst (Consumes source.before source.now) (sym c.deref.ensures.value) c.in-Ok.ensures.bytes)
     (subst (λ b. IsWhole b source) (sym c.deref.ensures.value) whole)
-    c.in-Err-read_project.ensures.refused)
+    (subst (λ schemas. IsRefusal c.in-Err-read_project.error (project_of schemas bytes)) c.known_effects.ensures.none c.in-Err-read_project.ensures.refused))
