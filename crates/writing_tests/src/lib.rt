@@ -1,0 +1,5 @@
+//! Tests of writing projects.
+#![tactic(auto)]
+
+#[cfg(test)]
+mod written;
