@@ -1,15 +1,14 @@
 -- Pairs that are put, taken and looked up.
-use Rattle.std.proofs.Common.{◌≡◌, ◌≢◌, ℕ, zero, suc, ◌+◌, ◌<◌, ◌≤◌, ◌==◌, true, false, Bool, nat_eq, List, [], ◌∷◌, ◌++◌, length, drop, take, slice_index_or, Option, Some, None, if◌then◌else◌, refl, sym, ◌∙◌, ap, subst, arith, MatchOption, Bor}
+use Rattle.std.proofs.Common.{◌≡◌, ◌≢◌, ℕ, ◌<◌, true, false, Bool, nat_eq, List, [], ◌∷◌, ◌++◌, length, Option, Some, None, if◌then◌else◌, refl, sym, ◌∙◌, subst, arith, MatchOption, Bor}
 use Rattle.std.specs.List.{All}
 use Rattle.std.specs.Option.{option_copied, option_to_list}
-use Rattle.std.proofs.lemmas.List.{append-nil, length-append}
+use Rattle.std.proofs.lemmas.List.{append-nil}
 use Rattle.std.proofs.lemmas.List.Elements.{All-push, All-head, All-tail, All-nil, All-cons}
-use Rattle.effect_api.specs.declared.checkouts.Pixels.{Pixels}
-use Rattle.effect_api.specs.declared.checkouts.Pixels.TheVariants.{Drawn, Shared}
+use Rattle.effect_api.specs.declared.checkouts.PixelsOf.TheVariants.{Drawn, Shared}
 use Rattle.effect_api.specs.declared.checkouts.Value.{Value}
 use Rattle.effect_api.specs.declared.checkouts.Value.TheVariants as value
 use Rattle.argb_world.specs.Picture.{Picture}
-use Rattle.effect_api.specs.Checked.{Pairs, IsChecked, IsNew, HaveDistinctIds, HasWorld, IsPlaneValue, plane_in, world_in, world_with}
+use Rattle.effect_api.specs.Checked.{Pairs, Pixels, IsChecked, IsNew, HaveDistinctIds, HasWorld, IsPlaneValue, plane_in, world_in, world_with}
 
 -- a fact on all of a list is one on all but its last
 All-front : {X : Type 0} (P : X → Type 0) (xs : List X) (x : X) → All P (xs ++ x ∷ []) → All P xs
@@ -44,15 +43,15 @@ module _ {most : ℕ} {K : Type 0} where
   front_distinct (q ∷ ps) p ids = (All-front (λ (other : ℕ × Pixels most K). other.0 ≢ q.0) ps p ids.0, front_distinct ps p ids.1)
 
   -- a pair that is put
-  pub put_keeps : (old new : Pairs most K) (pair : ℕ × Pixels most K) → IsChecked old → length old.pairs < old.room → IsNew pair.0 old.pairs → HasWorld pair.1
-      → new.pairs ≡ old.pairs ++ pair ∷ [] → new.room ≡ old.room → IsChecked new
+  pub put_keeps : (old new : Pairs Picture K (Value most)) (pair : ℕ × Pixels most K) → IsChecked IsPlaneValue old → length old.pairs < old.room → IsNew pair.0 old.pairs → HasWorld pair.1
+      → new.pairs ≡ old.pairs ++ pair ∷ [] → new.room ≡ old.room → IsChecked IsPlaneValue new
   put_keeps old new pair checked room fresh world pairs_are room_is = record {
     ids = subst HaveDistinctIds (sym pairs_are) (put_distinct old.pairs pair checked.ids fresh);
     worlds = subst (All (λ (p : ℕ × Pixels most K). HasWorld p.1)) (sym pairs_are) (All-push (λ (p : ℕ × Pixels most K). HasWorld p.1) old.pairs pair checked.worlds world);
   }
 
   -- the last one is taken, if there is one
-  pub take_keeps : (old new : Pairs most K) (taken : Option (ℕ × Pixels most K)) → IsChecked old → old.pairs ≡ new.pairs ++ option_to_list taken → new.room ≡ old.room → IsChecked new
+  pub take_keeps : (old new : Pairs Picture K (Value most)) (taken : Option (ℕ × Pixels most K)) → IsChecked IsPlaneValue old → old.pairs ≡ new.pairs ++ option_to_list taken → new.room ≡ old.room → IsChecked IsPlaneValue new
   take_keeps old new None checked pairs_are room_is =
       let same : new.pairs ≡ old.pairs = sym (pairs_are ∙ append-nil new.pairs) in
       record {

@@ -1,5 +1,5 @@
 -- What an effect is handed: checked-out planes by their ids, and sums.
-use Rattle.std.specs.Prelude.{◌≡◌, ◌≢◌, ℕ, ◌<◌, ◌≤◌, ◌==◌, pos, List, [], ◌∷◌, length, map, slice_get, Option, Some, None, if◌then◌else◌}
+use Rattle.std.specs.Prelude.{◌≡◌, ◌≢◌, ℕ, ◌≤◌, ◌==◌, List, [], ◌∷◌, length, map, slice_get, Option, Some, None, if◌then◌else◌}
 use Rattle.std.specs.List.{All}
 use Rattle.geom_rect.specs.Rect.{origin, area_of}
 use Rattle.argb_world.specs.Picture.{Picture, greatest_part}
@@ -11,8 +11,8 @@ use Rattle.effect_api.specs.declared.moment.Want.{Want}
 use Rattle.effect_api.specs.declared.moment.Ask.{Ask}
 use Rattle.effect_api.specs.declared.checkouts.Value.{Value}
 use Rattle.effect_api.specs.declared.checkouts.Value.TheVariants as value
-use Rattle.effect_api.specs.declared.checkouts.Pixels.{Pixels}
-use Rattle.effect_api.specs.declared.checkouts.Pixels.TheVariants.{Drawn, Shared}
+use Rattle.effect_api.specs.declared.checkouts.PixelsOf.{PixelsOf}
+use Rattle.effect_api.specs.declared.checkouts.PixelsOf.TheVariants.{Drawn, Shared}
 use Rattle.effect_api.specs.Planes.{IsPlane, HasSides}
 
 -- no picture
@@ -41,43 +41,52 @@ abbrev pub value_sums : {most : ℕ} → Value most → List ℕ
 value_sums (value.Plane world) = []
 value_sums (value.Sums sums) = sums
 
--- checked-out pixels are those of a plane, and which
-abbrev pub HasWorld : {most : ℕ} {K : Type 0} → Pixels most K → Type 0
-HasWorld (Drawn world) = Unit {0}
-HasWorld (Shared receipt) = IsPlaneValue receipt.value
-
-abbrev pub world_of : {most : ℕ} {K : Type 0} → Pixels most K → Picture
-world_of (Drawn world) = world
-world_of (Shared receipt) = value_world receipt.value
-
-abbrev pub world_in : {most : ℕ} {K : Type 0} → Pixels most K → Option Picture
-world_in (Drawn world) = Some world
-world_in (Shared receipt) = plane_in receipt.value
-
--- they come from the cache
-abbrev pub IsShared : {most : ℕ} {K : Type 0} → Pixels most K → Type 0
-IsShared (Drawn world) = ⊥
-IsShared (Shared receipt) = Unit {0}
-
 -- pairs of an id and pixels, and how many pairs there is room for
-pub record Pairs (most : ℕ) (K : Type 0) : Type 0 where
-  pub pairs : List (ℕ × Pixels most K)
+pub record Pairs (W K V : Type 0) : Type 0 where
+  pub pairs : List (ℕ × PixelsOf W K V)
   pub room : ℕ
 
-module _ {most : ℕ} {K : Type 0} where
+module _ {W K V : Type 0} where
+  -- what is shared is a plane
+  abbrev pub SharesPlane : (V → Type 0) → PixelsOf W K V → Type 0
+  SharesPlane is_plane (Drawn world) = Unit {0}
+  SharesPlane is_plane (Shared receipt) = is_plane receipt.value
+
   -- no pair has the id
-  abbrev pub IsNew : ℕ → List (ℕ × Pixels most K) → Type 0
+  abbrev pub IsNew : ℕ → List (ℕ × PixelsOf W K V) → Type 0
   IsNew id pairs = All (λ pair. pair.0 ≢ id) pairs
 
   -- the id of each pair is new among the pairs after it
-  abbrev pub HaveDistinctIds : List (ℕ × Pixels most K) → Type 0
+  abbrev pub HaveDistinctIds : List (ℕ × PixelsOf W K V) → Type 0
   HaveDistinctIds [] = Unit {0}
   HaveDistinctIds (pair ∷ pairs) = IsNew pair.0 pairs × HaveDistinctIds pairs
 
-  -- ids differ, and each has a plane
-  pub record IsChecked (all : Pairs most K) : Type 0 where
+  -- ids differ, and what is shared is a plane
+  pub record IsChecked (is_plane : V → Type 0) (all : Pairs W K V) : Type 0 where
     pub ids : HaveDistinctIds all.pairs
-    pub worlds : All (λ pair. HasWorld pair.1) all.pairs
+    pub worlds : All (λ pair. SharesPlane is_plane pair.1) all.pairs
+
+-- the pixels of worlds of a depth
+abbrev pub Pixels : ℕ → Type 0 → Type 0
+Pixels most K = PixelsOf Picture K (Value most)
+
+module _ {most : ℕ} {K : Type 0} where
+  -- they are those of a plane, and which
+  abbrev pub HasWorld : Pixels most K → Type 0
+  HasWorld pixels = SharesPlane IsPlaneValue pixels
+
+  abbrev pub world_of : Pixels most K → Picture
+  world_of (Drawn world) = world
+  world_of (Shared receipt) = value_world receipt.value
+
+  abbrev pub world_in : Pixels most K → Option Picture
+  world_in (Drawn world) = Some world
+  world_in (Shared receipt) = plane_in receipt.value
+
+  -- they come from the cache
+  abbrev pub IsShared : Pixels most K → Type 0
+  IsShared (Drawn world) = ⊥
+  IsShared (Shared receipt) = Unit {0}
 
   -- the world with the id
   abbrev pub world_with : ℕ → List (ℕ × Pixels most K) → Option Picture

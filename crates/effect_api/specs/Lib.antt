@@ -4,3 +4,8 @@ pub mod Wants
 pub mod Checked
 pub mod Render
 pub mod Effects
+pub mod Own
+pub mod Schemas
+pub mod Tests
+pub mod Laws
+pub mod Sets

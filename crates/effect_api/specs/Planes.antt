@@ -1,8 +1,8 @@
 -- Planes as effects are given them.
 use Rattle.std.specs.Prelude.{◌≡◌, ℕ, ◌<◌, ℤ, pos, neg_ℤ, ◌≤ℤ◌, List, [], ◌∷◌, length, map, slice_index_or}
 use Rattle.geom_rect.specs.declared.rect.Rect.{Rect}
-use Rattle.geom_rect.specs.Rect.{Has, IsWithin, cover_of, origin}
-use Rattle.argb_pixel.specs.Pixel.{Argb, IsPremultiplied, clear}
+use Rattle.geom_rect.specs.Rect.{Has, cover_of, origin}
+use Rattle.argb_pixel.specs.Pixel.{IsPremultiplied, clear}
 use Rattle.comp_stack.specs.Stack.{Plane}
 
 -- what a plane is: premultiplied pixels, and none outside its extent

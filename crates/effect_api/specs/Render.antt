@@ -1,8 +1,8 @@
 -- What pre-render answers.
-use Rattle.std.specs.Prelude.{◌≡◌, ◌↔◌, ℕ, ◌<◌, ℤ, List, length, slice_get, Some, IsTrue}
+use Rattle.std.specs.Prelude.{◌≡◌, ◌↔◌, ℕ, ℤ, List, length, slice_get, Some, IsTrue, false}
 use Rattle.std.specs.List.{All}
 use Rattle.geom_rect.specs.declared.rect.Rect.{Rect}
-use Rattle.geom_rect.specs.Rect.{Has, IsWithin}
+use Rattle.geom_rect.specs.Rect.{Has, IsWithin, meet_of}
 use Rattle.effect_api.specs.declared.moment.Want.{Want}
 use Rattle.effect_api.specs.declared.pre_render.Checkout.{Checkout}
 use Rattle.effect_api.specs.declared.pre_render.PreRender.{PreRender}
@@ -31,3 +31,15 @@ pub record AreCheckouts (wants : List Want) (extents : List Rect) (need : ℕ �
   pub one_each : length checkouts ≡ length wants
   pub each : (i : ℕ) (want : Want) (checkout : Checkout) → slice_get wants i ≡ Some want → slice_get checkouts i ≡ Some checkout
       → IsCheckout want i (extent_at extents i) (need i) checkout
+
+-- what most effects answer: the request met with the bounds, and no more
+pub record IsMet (bounds request : Rect) (pre : PreRender) : Type 0 where
+  pub result_is : pre.result_rect ≡ meet_of request bounds
+  pub points : (x y : ℤ) → (Has pre.result_rect x y ↔ (Has request x y × Has bounds x y))
+  pub no_more : pre.extra ≡ false
+
+-- what is checked out has the needed points of its want's extent, and no others
+abbrev pub AreExact : List Rect → (ℕ → Rect) → List Checkout → Type 0
+AreExact extents need checkouts =
+    (i : ℕ) (checkout : Checkout) → slice_get checkouts i ≡ Some checkout
+    → (x y : ℤ) → (Has checkout.request x y ↔ (Has (need i) x y × Has (extent_at extents i) x y))

@@ -1,12 +1,12 @@
 -- What an effect may want and ask for, and how far it may reach.
-use Rattle.std.specs.Prelude.{◌≡◌, ◌≢◌, ℕ, ◌+◌, ◌<◌, ◌≤◌, ℤ, pos, true, List, length, codes}
+use Rattle.std.specs.Prelude.{◌≡◌, ◌≢◌, ℕ, ◌<◌, ◌≤◌, pos, true, List, length, codes}
 use Rattle.std.specs.List.{All}
 use Rattle.geom_rect.specs.declared.rect.Rect.{Rect}
 use Rattle.geom_rect.specs.Rect.{IsWithin, is_empty, grow_of}
-use Rattle.effect_api.specs.declared.moment.Moment.{Moment}
 use Rattle.effect_api.specs.declared.moment.Want.{Want}
 use Rattle.effect_api.specs.declared.moment.Ask.{Ask}
-use Rattle.effect_api.specs.Fits.{DistinctTexts, IsHeld}
+use Rattle.project_model.specs.Effects.{DistinctTexts}
+use Rattle.effect_api.specs.Fits.{IsHeld}
 use Rattle.effect_api.specs.Planes.{HasSides, cover_all}
 
 -- the names of the classes: none is that of the planes themselves, and their numbers, from 1 on, are bytes

@@ -1,28 +1,40 @@
-ghost use Rattle.std.specs.Prelude.{◌≡◌, ◌<◌, ℤ, length};
-ghost use Rattle.std.specs.List.{All};
-ghost use Rattle.param_stream.specs.Curve.{IsBetween};
-ghost use Rattle.effect_api.specs.Fits.{value_of, curve_at};
+ghost use Rattle.std.specs.Prelude.{◌≡◌, List, slice_get};
+ghost use Rattle.std.specs.Option.{option_copied};
+ghost use Rattle.param_stream.specs.Curve.{IsBetween, value_at};
+ghost use Rattle.project_model.specs.declared.effect.ParamSchema.{ParamSchema};
+ghost use Rattle.project_model.specs.Effects.{use_of, AreInRange};
+ghost use Rattle.effect_api.specs.Fits.{IsBased, param_of, value_of};
 
-use crate::schema::FxUse;
+use crate::moment::Moment;
 use param_stream::Stream;
+use project_model::FxUse;
 use rational_time::Tick;
 
-/// The value of a parameter at a tick, which may be another than that of the frame: the SDK's PF_CHECKOUT_PARAM. It is
-/// within all bounds that the keyframes are within, so within the range of the schema.
-pub fn checkout_param(fx: &FxUse, index: usize, tick: Tick) -> i64
-    requires { index < length fx.now.params }
-    ensures value { result ≡ value_of fx.now index tick.0 }
-    ensures within { (least most : ℤ) → All (λ key. IsBetween least most key.value) (curve_at fx.now index).keys → IsBetween least most result }
+/// The value of a parameter at a tick, which may be another than that of the moment: the SDK's PF_CHECKOUT_PARAM. Where the
+/// use fits a schema it is in the range that the schema gives. It is 0 where there is no such parameter.
+pub fn checkout_param(fx: &FxUse, at: Moment, index: usize, tick: Tick) -> i64
+    requires { IsBased fx.now at }
+    ensures value { result ≡ value_of at.base.ticks (use_of fx.now) index tick.0 }
+    ensures within { (params : List ParamSchema) → AreInRange params (use_of fx.now).params
+        → IsBetween (param_of params index).least (param_of params index).most result }
 {
-    let stream = stream_at(fx, index);
-    let _keys = stream.keys();
-    stream.at(tick)
+    match stream_at(fx, index) {
+        Some(stream) => value_at(stream, tick),
+        None => 0,
+    }
 }
 
 // The stream of a parameter.
-fn stream_at(fx: &FxUse, index: usize) -> &Stream
-    requires { index < length fx.now.params }
-    ensures { result.now ≡ curve_at fx.now index }
+fn stream_at(fx: &FxUse, index: usize) -> Option<&Stream>
+    ensures { option_copied result ≡ slice_get fx.now.params index }
 {
-    &fx.params.as_slice()[index]
+    fx.params.as_slice().get(index)
+}
+
+// The value of a stream at a tick.
+fn value_at(stream: &Stream, tick: Tick) -> i64
+    ensures { result ≡ value_at stream.now.base stream.now.keys tick.0 }
+{
+    let _keys = stream.keys();
+    stream.at(tick)
 }

@@ -1,32 +1,62 @@
-use param_stream::Stream;
-use project_model::{Collection, Text};
+ghost use Rattle.std.specs.Prelude.{◌≡◌, IfOk};
+ghost use Rattle.effect_api.specs.Schemas.{param, no_sequence, plain_effect, data_effect};
+
+use host_io::Memory;
+use project_model::{Collection, EffectSchema, ParamSchema, Text};
 use sequence_data::SeqRule;
+use std::alloc::Global;
 
-/// What an effect of a set is: its name, whether it may be drawn by several threads, its parameters, how many layer
-/// parameters it has, and how long its sequence data is. The number of its kind is its place in the list of the set.
-#[derive(Debug, Drop)]
-pub struct EffectSchema {
-    pub name: Text,
-    pub threaded: bool,
-    pub params: Collection<ParamSchema>,
-    pub layers: u32,
-    pub sequence: SeqRule,
+/// The rule of an effect without sequence data.
+pub const NO_SEQUENCE: SeqRule = SeqRule {
+    unit: 0,
+    least: 0,
+    most: 0,
+};
+
+// A text.
+fn text(alloc: Global, name: &str) -> Result<Text, Memory>
+    ensures { IfOk result (λ text. text ≡ name.now) }
+{
+    Ok(Text::from_string(String::from_str(alloc, name)?))
 }
 
-/// A parameter of an effect: its name and the range of its values, `least..=most`.
-#[derive(Debug, Drop)]
-pub struct ParamSchema {
-    pub name: Text,
-    pub least: i64,
-    pub most: i64,
+/// A parameter with the range `least..=most`.
+pub fn param_schema(alloc: Global, name: &str, least: i64, most: i64) -> Result<ParamSchema, Memory>
+    ensures { IfOk result (λ schema. schema ≡ param name.now least most) }
+{
+    Ok(ParamSchema {
+        name: text(alloc, name)?,
+        least,
+        most,
+    })
 }
 
-/// A use of an effect on a layer: its kind, a stream for each parameter, a layer of the same composition for each layer
-/// parameter, and the bytes of its sequence data.
-#[derive(Drop)]
-pub struct FxUse {
-    pub kind: u16,
-    pub params: Collection<Stream>,
-    pub layers: Collection<u32>,
-    pub sequence: Collection<u8>,
+/// An effect that is threaded and has neither layer parameters nor sequence data.
+pub fn plain_schema(
+    alloc: Global,
+    name: &str,
+    params: Vec<ParamSchema>,
+) -> Result<EffectSchema, Memory>
+    ensures { IfOk result (λ schema. schema ≡ plain_effect name.now params.items) }
+{
+    Ok(EffectSchema {
+        name: text(alloc, name)?,
+        threaded: true,
+        params: Collection::from_vec(params),
+        layers: 0,
+        sequence: NO_SEQUENCE,
+    })
+}
+
+/// An effect that is threaded and has sequence data, and neither parameters nor layer parameters.
+pub fn data_schema(alloc: Global, name: &str, rule: SeqRule) -> Result<EffectSchema, Memory>
+    ensures { IfOk result (λ schema. schema ≡ data_effect name.now rule) }
+{
+    Ok(EffectSchema {
+        name: text(alloc, name)?,
+        threaded: true,
+        params: Collection::from_vec(Vec::new(alloc)),
+        layers: 0,
+        sequence: rule,
+    })
 }

@@ -1,17 +1,29 @@
-use Rattle.std.proofs.Common.{rules, ◌≡◌, ℤ, subst, sym, ◌∙◌, arith, to_z, of_z, w64}
-use Rattle.std.proofs.lemmas.Int.{ints}
-use Rattle.std.specs.List.{All}
+use Rattle.std.proofs.Common.{rules, ℤ, List, subst, sym, ap, ◌∙◌, w64}
+use Rattle.std.specs.Int.RustNames.{FitsSigned}
+use Rattle.std.proofs.lemmas.Int.{to_z-of_z}
 use Rattle.param_stream.specs.declared.key.Keyframe.{Keyframe}
-use Rattle.param_stream.specs.Curve.{Curve, IsBetween}
-use Rattle.param_stream.proofs.Values.{value_within}
+use Rattle.param_stream.specs.Curve.{IsBetween, value_at}
+use Rattle.effect_api.specs.Fits.{param_of}
+use Rattle.effect_api.specs.Laws.{value_in_range}
+use Rattle.effect_api.proofs.Params.{no_keys, value_found}
 use Rattle.effect_api.proofs.param.checkout_param.Goals as goal
 
-pub returns-clause-within : goal.returns-clause-within
-returns-clause-within c least most all =
-    let r : ℤ = c.at.result in
-    let sound = c.keys-keys.ensures.sound in
-    let inside = c.at.ensures.within in
-    let held : to_z w64 (of_z w64 r) ≡ r = omega (arith, ints, sound.least_bound, sound.most_bound, inside.0, inside.1) in
-    let keys = subst (λ (curve : Curve). All (λ (key : Keyframe). IsBetween least most key.value) curve.keys) (sym c.stream_at-stream.ensures) all in
-    let value = value_within _ _ c.args.tick.0 least most sound.some keys in
-    subst (λ (v : ℤ). IsBetween least most v) (sym c.at.ensures.value ∙ sym held) value
+pub returns-in-Some-clause-value : goal.returns-in-Some-clause-value
+returns-in-Some-clause-value c =
+    let fits : FitsSigned w64 c.value_at.result = search rules in
+    to_z-of_z w64 c.value_at.result fits ∙ c.value_at.ensures
+    ∙ value_found c.args.fx.now.params c.args.index c.args.at.base.ticks c.in-Some.stream.now c.args.tick.0 c.requires (sym c.in-Some.ensures)
+
+pub returns-in-None-clause-value : goal.returns-in-None-clause-value
+returns-in-None-clause-value c =
+    ap (λ (keys : List Keyframe). value_at c.args.at.base.ticks keys c.args.tick.0) (sym (no_keys c.args.fx.now.params c.args.index (sym c.in-None.ensures)))
+
+pub returns-in-Some-clause-within : goal.returns-in-Some-clause-within
+returns-in-Some-clause-within c params fits =
+    subst (λ (v : ℤ). IsBetween (param_of params c.args.index).least (param_of params c.args.index).most v) (sym (returns-in-Some-clause-value c))
+    (value_in_range params _ c.args.at.base.ticks c.args.index c.args.tick.0 fits)
+
+pub returns-in-None-clause-within : goal.returns-in-None-clause-within
+returns-in-None-clause-within c params fits =
+    subst (λ (v : ℤ). IsBetween (param_of params c.args.index).least (param_of params c.args.index).most v) (sym (returns-in-None-clause-value c))
+    (value_in_range params _ c.args.at.base.ticks c.args.index c.args.tick.0 fits)
