@@ -1,2 +1,1 @@
 pub mod RowsDrawn
-pub mod Parts

@@ -1,2 +1,4 @@
 pub mod Formulas
 pub mod Color
+pub mod Parts
+pub mod Laws

@@ -38,7 +38,7 @@ fn tint_part(ends: Ends, amount: u32, a: u32, luma: u32, c: u32) -> u32
 }
 
 // What lies between its black and its white, by how bright the pixel is.
-#[tactic(auto, using(crate::proofs::Parts::mean_within))]
+#[tactic(auto, using(crate::specs::Parts::mean_within))]
 fn mean(ends: Ends, a: u32, luma: u32) -> u32
     requires alpha { a ≤ 32768 }
     requires luma { luma ≤ a }
@@ -49,7 +49,7 @@ fn mean(ends: Ends, a: u32, luma: u32) -> u32
 }
 
 // Two numbers that are at most `a`, mixed.
-#[tactic(auto, using(crate::proofs::Parts::mixed_within))]
+#[tactic(auto, using(crate::specs::Parts::mixed_within))]
 fn mixed(a: u32, x: u32, y: u32, amount: u32) -> u32
     requires alpha { a ≤ 32768 }
     requires first { x ≤ a }

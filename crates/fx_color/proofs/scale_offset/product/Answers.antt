@@ -2,7 +2,7 @@ use Rattle.std.proofs.Common.{◌≡◌, ◌≤◌, ℤ, pos, ◌*ℤ◌, neg_�
 use Rattle.std.specs.Int.RustNames.{FitsSigned}
 use Rattle.std.specs.Prelude.{unsigned_abs}
 use Rattle.std.proofs.lemmas.Int.{to_z-of_z, fits_signed_from_abs}
-use Rattle.fx_color.proofs.Parts.{product_bound}
+use Rattle.fx_color.specs.Parts.{product_bound}
 use Rattle.fx_color.proofs.scale_offset.product.Goals as goal
 
 pub returns-clause-bound : goal.returns-clause-bound
