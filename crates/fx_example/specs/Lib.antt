@@ -1,0 +1,2 @@
+pub mod Fade
+pub mod Laws

@@ -1,0 +1,5 @@
+/// The set that a kind of the stock is of, with its number there.
+#[derive(Clone, Copy, Debug, PartialEq, Eq)]
+pub enum Part {
+    Color(u16),
+}

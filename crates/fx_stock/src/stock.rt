@@ -1,0 +1,186 @@
+ghost use Rattle.std.specs.Prelude.{◌≡◌, ◌<◌, ◌≤◌, [], length, IfOk, IfErr, OnOk};
+ghost use Rattle.std.specs.List.{All};
+ghost use Rattle.argb_pixel.specs.Depth.{IsDepth};
+ghost use Rattle.argb_world.specs.Picture.{SameExtentAndPart};
+ghost use Rattle.comp_stack.specs.Layers.{plane_of};
+ghost use Rattle.project_model.specs.Effects.{schema_of, use_of};
+ghost use Rattle.effect_api.specs.Fits.{IsBased, IsGiven};
+ghost use Rattle.effect_api.specs.Planes.{HasSides};
+ghost use Rattle.effect_api.specs.Render.{AreExtents, IsResult, AreCheckouts, AreExact};
+ghost use Rattle.effect_api.specs.Checked.{IsPlaneValue, IsSumsValue, value_world, planes_of, sums_in, AreChecked, AreSums};
+ghost use Rattle.effect_api.specs.Effects.{Shows};
+ghost use Rattle.effect_api.specs.Own.{no_classes};
+ghost use Rattle.effect_api.specs.Laws.{no_classes_are, no_sums_few};
+ghost use Rattle.fx_stock.specs.Stock.{stock_schemas, stock_sums, part_of, part_wants, part_asks, part_bounds, part_need, part_result, part_draws};
+ghost use Rattle.fx_stock.specs.Laws.{stock_schemas_are, fits_part, part_wants_are, part_asks_are, part_bounds_are, part_draws_are, part_draws_locally};
+
+use crate::part::Part;
+use argb_world::World;
+use compute_cache::{Keeps, Receipt, Turn};
+use effect_api::{
+    Ask, Checkouts, Draw, Effect, Moment, PreRender, Value, Want, own_pre_render, own_wants,
+};
+use fx_color::{color_schemas, color_sequence, recolor_use};
+use geom_rect::Rect;
+use host_io::Memory;
+use project_model::{EffectSchema, FxUse};
+use sequence_data::{SeqRule, Sequence, SequenceError, keep_sequence};
+use std::alloc::Global;
+
+/// The stock set, by the numbers of its kinds: 0 to 5 are the colour effects.
+#[derive(Clone, Copy, Debug, Drop)]
+pub struct Stock;
+
+// The set that a kind is of, with its number there.
+fn part_of(kind: u16) -> Part
+    requires { kind < length stock_schemas }
+    ensures { result ≡ part_of kind }
+{
+    Part::Color(kind)
+}
+
+// Which bytes a kind has.
+fn sequence_rule(kind: u16) -> SeqRule
+    requires { kind < length stock_schemas }
+    ensures { result ≡ (schema_of stock_schemas kind).sequence }
+{
+    match part_of(kind) {
+        Part::Color(kind) => color_sequence(kind),
+    }
+}
+
+impl Effect for Stock {
+    ghost schemas = { stock_schemas };
+
+    ghost class_names = { no_classes };
+
+    ghost wants = { λ fx at. part_wants (part_of fx.kind) fx at };
+
+    ghost asks = { λ fx at. part_asks (part_of fx.kind) fx at };
+
+    ghost bounds = { λ fx at extents. part_bounds (part_of fx.kind) fx at extents };
+
+    ghost need = { λ fx at extents i rect. part_need (part_of fx.kind) fx at extents i rect };
+
+    fn schemas(&self, alloc: Global) -> Result<Vec<EffectSchema>, Memory> {
+        color_schemas(alloc)
+    }
+
+    fn class_names(&self, alloc: Global) -> Result<Vec<String>, Memory> {
+        Ok(Vec::new(alloc))
+    }
+
+    fn list_wants(&self, alloc: Global, fx: &FxUse, at: Moment) -> Result<Vec<Want>, Memory> {
+        match part_of(fx.kind) {
+            Part::Color(_) => own_wants(alloc, at),
+        }
+    }
+
+    fn list_asks(&self, alloc: Global, fx: &FxUse, _at: Moment) -> Result<Vec<Ask>, Memory> {
+        match part_of(fx.kind) {
+            Part::Color(_) => Ok(Vec::new(alloc)),
+        }
+    }
+
+    fn pre_render(
+        &self,
+        alloc: Global,
+        fx: &FxUse,
+        at: Moment,
+        extents: &[Rect],
+        request: Rect,
+    ) -> Result<PreRender, Memory>
+        requires given { IsGiven stock_schemas (use_of fx.now) at }
+        requires based { IsBased fx.now at }
+        requires extents { AreExtents (part_wants (part_of fx.now.kind) (use_of fx.now) at) extents.now }
+        requires request { HasSides request }
+        ensures rects { IfOk result (IsResult (part_bounds (part_of fx.now.kind) (use_of fx.now) at extents.now) request) }
+        ensures checkouts { IfOk result (λ pre. AreCheckouts (part_wants (part_of fx.now.kind) (use_of fx.now) at) extents.now
+            (λ i. part_need (part_of fx.now.kind) (use_of fx.now) at extents.now i pre.result_rect) pre.checkouts.items) }
+        ensures result_is { IfOk result (λ pre. pre.result_rect ≡ part_result (part_of fx.now.kind) (use_of fx.now) at extents.now request) }
+        ensures exact { IfOk result (λ pre. AreExact extents.now
+            (λ i. part_need (part_of fx.now.kind) (use_of fx.now) at extents.now i pre.result_rect) pre.checkouts.items) }
+    {
+        match part_of(fx.kind) {
+            Part::Color(_) => own_pre_render(alloc, at, extents, request),
+        }
+    }
+
+    fn setup_sequence(
+        &self,
+        alloc: Global,
+        kind: u16,
+        bytes: &[u8],
+    ) -> Result<Sequence, SequenceError> {
+        keep_sequence(alloc, bytes, sequence_rule(kind))
+    }
+
+    ghost schemas_are = { stock_schemas_are };
+
+    ghost class_names_are = { no_classes_are };
+
+    ghost wants_are = { λ fx at given. part_wants_are (part_of fx.kind) fx at (fits_part fx given.fits) given.held };
+
+    ghost asks_are = { λ fx at given. part_asks_are (part_of fx.kind) fx at (fits_part fx given.fits) given.held };
+
+    ghost bounds_are = { λ fx at extents given count. part_bounds_are (part_of fx.kind) fx at extents (fits_part fx given.fits) count };
+}
+
+impl<const MAX: u32> Draw<MAX> for Stock {
+    ghost draws = { λ fx at planes sums. part_draws (part_of fx.kind) fx at planes sums };
+
+    ghost sums_of = { stock_sums };
+
+    fn smart_render<K: Keeps<Value = Value<MAX>>>(
+        &self,
+        alloc: Global,
+        fx: &FxUse,
+        at: Moment,
+        pixels: &Checkouts<MAX, K>,
+        sums: &[Receipt<K>],
+        target: &mut World<MAX>,
+    ) -> Result<(), Memory>
+        requires depth { IsDepth MAX }
+        requires given { IsGiven stock_schemas (use_of fx.now) at }
+        requires based { IsBased fx.now at }
+        requires pixels { AreChecked (part_wants (part_of fx.now.kind) (use_of fx.now) at) at pixels.now.pairs }
+        requires part { HasSides target.old.part }
+        requires receipts { All (λ receipt. IsSumsValue receipt.value) sums.now }
+        requires sums { AreSums MAX stock_sums (part_asks (part_of fx.now.kind) (use_of fx.now) at) (sums_in sums.now) }
+        ensures frame { SameExtentAndPart target.old target.new }
+        ensures drawn { OnOk result (Shows target.old.part
+            (part_draws (part_of fx.now.kind) (use_of fx.now) at (planes_of pixels.now.pairs) (sums_in sums.now)) target.new) }
+    {
+        match part_of(fx.kind) {
+            Part::Color(kind) => {
+                recolor_use(alloc, kind, fx, at, pixels.checkout_want(0), target)
+            }
+        }
+    }
+
+    fn analyse<K: Keeps<Value = Value<MAX>>>(
+        &self,
+        alloc: Global,
+        turn: &Turn<K>,
+        class: u8,
+        ask: u32,
+        plane: &Receipt<K>,
+    ) -> Result<Vec<u64>, Memory>
+        requires depth { IsDepth MAX }
+        requires class_low { 1 ≤ class }
+        requires class_high { class ≤ length no_classes }
+        requires turn_is { turn.now.class ≡ class }
+        requires ask { ask < 16777216 }
+        requires plane { IsPlaneValue plane.now.value }
+        requires whole { (value_world plane.now.value).part ≡ (value_world plane.now.value).extent }
+        ensures { IfOk result (λ list. list.items ≡ stock_sums class ask (plane_of (value_world plane.now.value))) }
+    {
+        Ok(Vec::new(alloc))
+    }
+
+    ghost draws_are = { λ fx at planes sums given input. part_draws_are MAX (part_of fx.kind) fx at planes sums (fits_part fx given.fits) input };
+
+    ghost draws_locally = { λ fx at extents given. part_draws_locally MAX (part_of fx.kind) fx at extents (fits_part fx given.fits) };
+
+    ghost sums_are_few = { λ class ask plane. no_sums_few class ask plane };
+}
