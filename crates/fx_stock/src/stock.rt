@@ -167,8 +167,6 @@ impl<const MAX: u32> Draw<MAX> for Stock {
         plane: &Receipt<K>,
     ) -> Result<Vec<u64>, Memory>
         requires depth { IsDepth MAX }
-        requires class_low { 1 ≤ class }
-        requires class_high { class ≤ length no_classes }
         requires turn_is { turn.now.class ≡ class }
         requires ask { ask < 16777216 }
         requires plane { IsPlaneValue plane.now.value }
