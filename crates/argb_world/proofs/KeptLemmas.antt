@@ -1,8 +1,8 @@
 -- Pixels of which the upper rows are written out.
-use Rattle.std.proofs.Common.{◌≡◌, ℕ, zero, suc, ◌+◌, ◌*◌, ◌-◌, ◌<◌, ◌≤◌, List, [], ◌∷◌, ◌++◌, All, Vec, vec_len, vec_capacity, length, take, drop, get_or, set, replicate, ◌⊎◌, inl, inr, refl, ap, ap₂, sym, subst, ◌∙◌, arith, length-append, length-take, length-drop}
+use Rattle.std.proofs.Common.{◌≡◌, ℕ, zero, suc, ◌+◌, ◌*◌, ◌-◌, ◌<◌, ◌≤◌, List, [], ◌++◌, All, Vec, vec_len, vec_capacity, length, take, drop, get_or, replicate, ◌⊎◌, inl, inr, refl, ap, ap₂, sym, subst, ◌∙◌, arith, length-append, length-drop}
 use Rattle.std.specs.List.{between}
 use Rattle.std.proofs.lemmas.Bool.{cases_lt}
-use Rattle.std.proofs.lemmas.List.{length-replicate, get_or-replicate, get_or_append_left, get_or-append_right, take-append-le, drop-append-le, append_assoc, replicate-append-replicate, nil_from_length, ext_get_or, get_or-take, take-replicate}
+use Rattle.std.proofs.lemmas.List.{length-replicate, get_or-replicate, get_or_append_left, get_or-append_right, take-append-le, drop-append-le, append_assoc, replicate-append-replicate, nil_from_length, ext_get_or, take-replicate}
 use Rattle.std.proofs.lemmas.List.Elements.{All-nil}
 use Rattle.std.specs.Vec.{with_items}
 use Rattle.std.proofs.lemmas.List.{with_items_is}
@@ -15,7 +15,6 @@ use Rattle.argb_pixel.specs.Pixel.{Argb, IsPremultiplied, clear}
 use Rattle.argb_pixel.specs.Packed.{pixel_size, pixels_of, IsPacked}
 use Rattle.argb_world.specs.Kept.{Rows, kept, IsKept, IsInRow}
 use Rattle.argb_pixel.proofs.Parts.{pixels_append, pixels_length, pixels_none, few_whole, append_packed, packed_made, size_is}
-use Rattle.argb_pixel.proofs.Places.{set_put}
 
 -- whole rows are no more than all
 rows_le : (rows height width : ℕ) → rows ≤ height → rows * width ≤ height * width

@@ -3,3 +3,4 @@ pub mod Rows
 pub mod Spans
 pub mod KeptLemmas
 pub mod Points
+pub mod Together

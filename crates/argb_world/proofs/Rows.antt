@@ -1,22 +1,14 @@
 -- What a picture shows: at one point, along a row, and after a write.
-use Rattle.std.proofs.Common.{◌≡◌, ℕ, ◌+◌, ◌*◌, ◌-◌, ◌<◌, ◌≤◌, ℤ, pos, negsuc, ◌-ℤ◌, ◌+ℤ◌, ◌≤ℤ◌, ◌<ℤ◌, Bool, true, false, List, length, get_or, set, take, drop, replicate, Vec, vec_len, ◌≢◌, refl, ap, sym, ◌∙◌, arith, ◌⊎◌, inl, inr, if◌then◌else◌, length-append, length-take, length-drop}
+use Rattle.std.proofs.Common.{◌≡◌, ℕ, ◌<◌, ℤ, pos, negsuc, ◌-ℤ◌, ◌+ℤ◌, ◌≤ℤ◌, ◌<ℤ◌, Bool, true, false, List, length, get_or, set, replicate, refl, ap, sym, ◌∙◌, arith, if◌then◌else◌}
 use Rattle.std.specs.Bool.{IsTrue}
 use Rattle.std.specs.Prelude.{Option, Some, None, IfSome}
-use Rattle.std.specs.Vec.{with_items}
-use Rattle.std.specs.List.{between}
 use Rattle.std.proofs.lemmas.Int.{ints}
 use Rattle.std.proofs.lemmas.Nat.{same_from_place}
-use Rattle.std.proofs.lemmas.Bool.{cases_lt}
-use Rattle.std.proofs.lemmas.List.{get_or-replicate, get_or-set_same, get_or-set_other, get_or_append_left, get_or-append_right, get_or-take, get_or-drop, get_or_read, with_items_is}
-use Rattle.std.proofs.lemmas.List.Edits.{length-between, get_or-between}
-use Rattle.std.proofs.lemmas.List.FromFn.{fill_by_all}
-use Rattle.std.proofs.lemmas.Slice.{between-put_mid}
-use Rattle.std.proofs.Math.Nat.{mul-le-mul_left}
-use borrow.Rule.Slice.PartMut.{put_mid}
+use Rattle.std.proofs.lemmas.List.{get_or-replicate, get_or-set_same, get_or-set_other, get_or_read}
 use Rattle.geom_rect.specs.declared.rect.Rect.{Rect}
 use Rattle.geom_rect.specs.Rect.{Has, positive_part, count_between, area_of, has, width_of}
 use Rattle.argb_pixel.specs.Pixel.{Argb, clear}
-use Rattle.argb_world.specs.Picture.{Picture, at, row_of, HasRow, place_of, StaysBeside, StaysOffRow}
+use Rattle.argb_world.specs.Picture.{Picture, at, place_of, StaysBeside}
 use Rattle.argb_world.proofs.Places.{below, same_offset, place_lt}
 use Rattle.geom_rect.proofs.Points.{has-true, Has-from_true}
 

@@ -1,6 +1,6 @@
 -- A row of points: where its pixels stand, what it shows, and what a write of it changes.
-use Rattle.std.proofs.Common.{◌≡◌, ℕ, ◌+◌, ◌*◌, ◌-◌, ◌<◌, ◌≤◌, ℤ, pos, ◌-ℤ◌, ◌+ℤ◌, ◌≤ℤ◌, ◌<ℤ◌, Bool, true, false, List, length, get_or, take, drop, replicate, ◌≢◌, refl, ap, sym, subst, ◌∙◌, arith, ◌⊎◌, inl, inr, ◌↔◌, length-append, length-take, length-drop, map}
-use Rattle.std.specs.List.{between, range_with_len}
+use Rattle.std.proofs.Common.{◌≡◌, ℕ, ◌+◌, ◌*◌, ◌-◌, ◌<◌, ◌≤◌, ℤ, pos, ◌-ℤ◌, ◌+ℤ◌, ◌≤ℤ◌, ◌<ℤ◌, List, length, get_or, take, drop, replicate, ◌≢◌, refl, ap, sym, subst, ◌∙◌, arith, ◌⊎◌, inl, inr, ◌↔◌, length-append, length-take, length-drop}
+use Rattle.std.specs.List.{between}
 use Rattle.std.proofs.lemmas.Int.{ints}
 use Rattle.std.proofs.lemmas.Bool.{cases_lt}
 use Rattle.std.proofs.lemmas.List.{length-replicate, get_or-replicate, get_or_append_left, get_or-append_right, get_or-take, get_or-drop}
@@ -10,12 +10,12 @@ use Rattle.std.proofs.lemmas.Slice.{between-put_mid}
 use Rattle.std.proofs.Math.Nat.{mul-le-mul_left}
 use borrow.Rule.Slice.PartMut.{put_mid}
 use Rattle.geom_rect.specs.declared.rect.Rect.{Rect}
-use Rattle.geom_rect.specs.Rect.{Has, has, positive_part, count_between, width_of, area_of}
+use Rattle.geom_rect.specs.Rect.{Has, positive_part, count_between, width_of, area_of}
 use Rattle.argb_pixel.specs.Pixel.{Argb, clear}
 use Rattle.argb_world.specs.Picture.{Picture, at, span_of, row_of, HasRow, HasSpan, place_of, SameExtentAndPart, StaysOffRow, StaysOffSpan}
 use Rattle.argb_world.specs.Kept.{IsInRow}
 use Rattle.argb_world.proofs.Places.{below, same_offset, positive_part_is}
-use Rattle.argb_world.proofs.Rows.{picture, at_inside, at_outside, at_beyond, at_same, column_above, column_below, column_is}
+use Rattle.argb_world.proofs.Rows.{picture, at_inside, at_beyond, at_same, column_above, column_below, column_is}
 
 -- ---- where the pixels stand
 
@@ -40,7 +40,7 @@ pub has_along : (part : Rect) (x y : ℤ) (n k : ℕ) → HasSpan part x y n →
 has_along part x y n k h l = (omega (arith, ints, h.1), omega (arith, ints, h.2, l), h.0.0, h.0.1)
 
 -- the whole row of a part
-start_is : (part : Rect) (y : ℤ) → place_of part part.left y ≡ positive_part (y -ℤ part.top) * width_of part
+pub start_is : (part : Rect) (y : ℤ) → place_of part part.left y ≡ positive_part (y -ℤ part.top) * width_of part
 start_is part y =
     let e : part.left -ℤ part.left ≡ pos 0 = omega (arith, ints) in
     let z : positive_part (part.left -ℤ part.left) ≡ 0 = ap positive_part e in

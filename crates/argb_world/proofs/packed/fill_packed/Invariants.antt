@@ -1,4 +1,4 @@
-use Rattle.std.proofs.Common.{◌≡◌, ◌*◌, ◌++◌, All, take, drop, length, replicate}
+use Rattle.std.proofs.Common.{◌≡◌, ◌++◌, All, take, drop, length, replicate}
 use Rattle.argb_pixel.specs.Pixel.{IsPremultiplied}
 use Rattle.argb_pixel.specs.Packed.{pixels_of}
 use Rattle.argb_world.proofs.packed.fill_packed.Given as goal

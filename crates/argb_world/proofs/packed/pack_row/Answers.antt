@@ -1,9 +1,9 @@
-use Rattle.std.proofs.Common.{◌≡◌, ℕ, ◌+◌, ◌*◌, ◌∙◌, refl, length, replicate, get_or, ap, sym, subst, All, take, List, arith}
-use Rattle.std.proofs.lemmas.List.{length-replicate, get_or-replicate, get_or_read, take_all}
-use Rattle.argb_pixel.specs.Pixel.{Argb, IsPremultiplied, clear}
-use Rattle.argb_pixel.specs.Packed.{pixel_size, pixels_of}
+use Rattle.std.proofs.Common.{◌≡◌, ◌∙◌, length, sym, subst, All, arith}
+use Rattle.std.proofs.lemmas.List.{get_or_read, take_all}
+use Rattle.argb_pixel.specs.Pixel.{IsPremultiplied, clear}
+use Rattle.argb_pixel.specs.Packed.{pixels_of}
 use Rattle.argb_pixel.proofs.Parts.{pixels_length, packed_made}
-use Rattle.argb_pixel.proofs.Places.{put_more, front_all, front_more, all_more}
+use Rattle.argb_pixel.proofs.Places.{put_more, front_all, all_more}
 use Rattle.argb_world.proofs.packed.pack_row.Goals as goal
 
 pub loop-i-preserved : goal.loop-i-preserved

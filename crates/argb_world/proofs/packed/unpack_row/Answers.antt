@@ -1,9 +1,7 @@
-use Rattle.std.proofs.Common.{◌≡◌, ℕ, ◌+◌, ◌*◌, ◌∙◌, refl, length, replicate, get_or, ap, sym, subst, All, take, List, arith}
-use Rattle.std.proofs.lemmas.List.{length-replicate, get_or-replicate, get_or_read, take_all}
-use Rattle.argb_pixel.specs.Pixel.{Argb, IsPremultiplied, clear}
-use Rattle.argb_pixel.specs.Packed.{pixel_size, pixels_of}
-use Rattle.argb_pixel.proofs.Parts.{pixels_length, packed_made}
-use Rattle.argb_pixel.proofs.Places.{put_more, front_all, front_more, all_more}
+use Rattle.std.proofs.Common.{length, arith}
+use Rattle.argb_pixel.specs.Packed.{pixels_of}
+use Rattle.argb_pixel.proofs.Parts.{pixels_length}
+use Rattle.argb_pixel.proofs.Places.{front_more}
 use Rattle.argb_world.proofs.packed.unpack_row.Goals as goal
 
 pub loop-i-preserved : goal.loop-i-preserved

@@ -1,5 +1,4 @@
-use Rattle.std.proofs.Common.{◌≡◌, ◌*◌, ◌++◌, All, take, drop, length, replicate}
-use Rattle.argb_pixel.specs.Pixel.{IsPremultiplied}
+use Rattle.std.proofs.Common.{◌≡◌, ◌++◌, take, drop}
 use Rattle.argb_pixel.specs.Packed.{pixels_of}
 use Rattle.argb_world.proofs.packed.unpack_row.Given as goal
 

@@ -1,10 +1,10 @@
-use Rattle.std.proofs.Common.{w64, rules, ◌≡◌, ◌+◌, ◌≤◌, ◌<◌, ◌*◌, ◌++◌, length, take, drop, ap, sym, subst, ◌∙◌, arith}
+use Rattle.std.proofs.Common.{w64, ◌≡◌, ◌+◌, ◌≤◌, ◌*◌, length, ap, sym, subst, ◌∙◌}
 use Rattle.std.specs.Int.RustNames.{FitsSigned}
 use Rattle.std.proofs.lemmas.Int.{to_z-of_z}
 use Rattle.argb_world.specs.Picture.{span_of}
 use Rattle.argb_world.proofs.Spans.{length_span}
-use Rattle.argb_pixel.specs.Packed.{pixel_size, pixels_of, IsPacked}
-use Rattle.argb_pixel.proofs.Places.{part_length, part_read, part_packed, part_put, part_put_packed, part_put_length}
+use Rattle.argb_pixel.specs.Packed.{pixel_size}
+use Rattle.argb_pixel.proofs.Places.{part_put, part_put_packed}
 use Rattle.argb_world.proofs.pixels.copy_over.Goals as goal
 
 pub returns-clause-packed : goal.returns-clause-packed

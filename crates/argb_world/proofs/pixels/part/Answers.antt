@@ -1,5 +1,5 @@
-use Rattle.std.proofs.Common.{rules, ◌≡◌, ◌+◌, ◌≤◌, ◌<◌, ◌*◌, ◌-◌, length, take, drop, ap, sym, subst, ◌∙◌, arith}
-use Rattle.argb_pixel.specs.Packed.{pixel_size, pixels_of, IsPacked}
+use Rattle.std.proofs.Common.{◌+◌, ◌≤◌, ◌*◌, length, sym, subst, ◌∙◌}
+use Rattle.argb_pixel.specs.Packed.{pixels_of}
 use Rattle.argb_pixel.proofs.Places.{part_read, part_packed, between_part}
 use Rattle.argb_world.proofs.pixels.part.Goals as goal
 

@@ -1,6 +1,5 @@
-use Rattle.std.proofs.Common.{rules, ◌≡◌, ◌+◌, ◌≤◌, ◌<◌, ◌*◌, ◌++◌, length, take, drop, ap, sym, subst, ◌∙◌, arith}
-use Rattle.argb_pixel.specs.Packed.{pixel_size, pixels_of, IsPacked}
-use Rattle.argb_pixel.proofs.Places.{part_length, part_read, part_packed, part_put, part_put_packed, part_put_length}
+use Rattle.std.proofs.Common.{◌≡◌, ◌+◌, ◌≤◌, ◌*◌, length, sym, subst, ◌∙◌}
+use Rattle.argb_pixel.proofs.Places.{part_length, part_put, part_put_packed}
 use Rattle.argb_world.proofs.pixels.write_from.Goals as goal
 
 pub returns-clause-packed : goal.returns-clause-packed

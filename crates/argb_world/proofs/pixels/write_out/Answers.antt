@@ -1,6 +1,6 @@
-use Rattle.std.proofs.Common.{rules, ◌≡◌, ◌+◌, ◌≤◌, ◌<◌, ◌*◌, ◌++◌, Bool, if◌then◌else◌, length, vec_len, vec_capacity, ap, sym, subst, ◌∙◌, arith}
+use Rattle.std.proofs.Common.{rules, ◌≡◌, ◌+◌, ◌<◌, ◌*◌, ◌++◌, Bool, if◌then◌else◌, length, vec_len, vec_capacity, ap, sym, subst, ◌∙◌, arith}
 use Rattle.argb_pixel.specs.Packed.{pixel_size, IsPacked}
-use Rattle.argb_world.specs.Kept.{kept, IsKept}
+use Rattle.argb_world.specs.Kept.{kept}
 use Rattle.argb_world.proofs.KeptLemmas.{more_kept, more_same, some_row, over_kept}
 use Rattle.argb_world.proofs.pixels.write_out.Goals as goal
 

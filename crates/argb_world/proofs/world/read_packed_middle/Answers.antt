@@ -1,8 +1,8 @@
-use Rattle.std.proofs.Common.{rules, ◌≡◌, ◌+◌, ◌≤◌, ◌<◌, ◌*◌, ◌++◌, length, take, drop, ap, sym, subst, ◌∙◌, arith}
+use Rattle.std.proofs.Common.{◌≡◌, ◌+◌, ◌≤◌, ◌*◌, length, ap, sym, subst, ◌∙◌, arith}
 use Rattle.std.specs.List.{between}
 use Rattle.std.proofs.lemmas.List.Edits.{length-between}
-use Rattle.argb_pixel.specs.Packed.{pixel_size, pixels_of, IsPacked}
-use Rattle.argb_pixel.proofs.Places.{part_length, part_read, part_packed, part_put, part_put_packed, part_put_length}
+use Rattle.argb_pixel.specs.Packed.{pixel_size}
+use Rattle.argb_pixel.proofs.Places.{part_put, part_put_packed}
 use Rattle.argb_world.proofs.world.read_packed_middle.Goals as goal
 
 pub returns-clause-packed : goal.returns-clause-packed

@@ -1,4 +1,4 @@
-use Rattle.std.proofs.Common.{rules, ◌≡◌, length, replicate, vec_len, vec_capacity, ap, sym, ◌∙◌, arith}
+use Rattle.std.proofs.Common.{rules, ◌≡◌, length, replicate, vec_capacity, ap, sym, ◌∙◌}
 use Rattle.argb_world.specs.Kept.{Rows}
 use Rattle.argb_world.proofs.KeptLemmas.{seen_length, kept_none}
 use Rattle.argb_world.proofs.pixels.Pixels.colour.Goals as goal

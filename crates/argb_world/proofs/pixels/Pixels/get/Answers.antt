@@ -1,6 +1,6 @@
-use Rattle.std.proofs.Common.{rules, ◌≡◌, ◌+◌, ◌≤◌, ◌<◌, ◌*◌, ◌^◌, length, get_or, vec_len, vec_capacity, ap, sym, subst, ◌∙◌, arith}
+use Rattle.std.proofs.Common.{rules, ◌≡◌, ◌<◌, ◌*◌, ◌^◌, length, get_or, vec_len, vec_capacity, ap, sym, subst, ◌∙◌, arith}
 use Rattle.argb_pixel.specs.Pixel.{clear}
-use Rattle.argb_pixel.specs.Packed.{pixel_size, pixels_of, IsPacked}
+use Rattle.argb_pixel.specs.Packed.{pixels_of, IsPacked}
 use Rattle.argb_world.specs.Kept.{Rows}
 use Rattle.argb_world.proofs.KeptLemmas.{seen_length, bytes_fit, in_front, beyond_front, get_front, get_rest}
 use Rattle.argb_pixel.proofs.Parts.{whole_one}

@@ -1,9 +1,7 @@
-use Rattle.std.proofs.Common.{rules, ◌≡◌, ℕ, ◌+◌, ◌-◌, ◌≤◌, ◌<◌, ◌*◌, ◌^◌, ◌∷◌, [], List, length, get_or, replicate, vec_len, vec_capacity, refl, ap, sym, subst, ◌∙◌, arith}
+use Rattle.std.proofs.Common.{rules, ◌≡◌, ◌+◌, ◌<◌, ◌*◌, ◌^◌, length, vec_len, vec_capacity, ap, sym, subst, ◌∙◌, arith}
 use Rattle.std.specs.List.{between}
-use borrow.Rule.Slice.PartMut.{put_mid}
-use Rattle.argb_pixel.specs.Pixel.{Argb, clear}
-use Rattle.argb_pixel.specs.Packed.{pixel_size, pixels_of, IsPacked}
-use Rattle.argb_world.specs.Kept.{Rows, kept, IsKept}
+use Rattle.argb_pixel.specs.Packed.{pixel_size, pixels_of}
+use Rattle.argb_world.specs.Kept.{Rows}
 use Rattle.std.proofs.Math.Nat.{mul-le-mul_left}
 use Rattle.argb_world.specs.Kept.{IsInRow}
 use Rattle.argb_world.proofs.KeptLemmas.{seen_length, kept_length, bytes_fit, in_front, beyond_front, row_in_front, row_fits, between_front, between_rest, between_alike}

@@ -1,9 +1,6 @@
-use Rattle.std.proofs.Common.{rules, ◌≡◌, ℕ, ◌+◌, ◌-◌, ◌≤◌, ◌<◌, ◌*◌, ◌^◌, ◌∷◌, [], List, length, get_or, replicate, vec_len, vec_capacity, refl, ap, sym, subst, ◌∙◌, arith}
+use Rattle.std.proofs.Common.{◌≡◌, ◌+◌, ◌*◌, length, ap, ◌∙◌, arith}
 use Rattle.std.specs.List.{between}
-use borrow.Rule.Slice.PartMut.{put_mid}
-use Rattle.argb_pixel.specs.Pixel.{Argb, clear}
-use Rattle.argb_pixel.specs.Packed.{pixel_size, pixels_of, IsPacked}
-use Rattle.argb_world.specs.Kept.{Rows, kept, IsKept}
+use Rattle.argb_pixel.specs.Packed.{pixel_size}
 use Rattle.std.proofs.lemmas.List.Edits.{length-between}
 use Rattle.argb_world.proofs.pixels.Pixels.read.Goals as goal
 

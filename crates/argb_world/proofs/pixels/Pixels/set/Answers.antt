@@ -1,9 +1,7 @@
-use Rattle.std.proofs.Common.{rules, ◌≡◌, ℕ, ◌+◌, ◌-◌, ◌≤◌, ◌<◌, ◌*◌, ◌^◌, ◌∷◌, [], List, length, get_or, replicate, vec_len, vec_capacity, refl, ap, sym, subst, ◌∙◌, arith}
-use Rattle.std.specs.List.{between}
+use Rattle.std.proofs.Common.{rules, ◌≡◌, ◌<◌, ◌^◌, ◌∷◌, [], length, vec_len, vec_capacity, ap, ◌∙◌, arith}
 use borrow.Rule.Slice.PartMut.{put_mid}
-use Rattle.argb_pixel.specs.Pixel.{Argb, clear}
-use Rattle.argb_pixel.specs.Packed.{pixel_size, pixels_of, IsPacked}
-use Rattle.argb_world.specs.Kept.{Rows, kept, IsKept}
+use Rattle.argb_pixel.specs.Packed.{pixels_of, IsPacked}
+use Rattle.argb_world.specs.Kept.{Rows}
 use Rattle.argb_world.proofs.KeptLemmas.{seen_length, stored_kept, stored}
 use Rattle.argb_pixel.proofs.Places.{put_keeps_packed, set_put}
 use Rattle.argb_world.proofs.pixels.Pixels.set.Goals as goal

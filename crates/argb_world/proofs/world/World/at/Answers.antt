@@ -1,4 +1,4 @@
-use Rattle.std.proofs.Common.{rules, ◌≡◌, length, get_or, ap, sym, ◌∙◌, arith, w32}
+use Rattle.std.proofs.Common.{get_or, ap, sym, ◌∙◌, arith, w32}
 use Rattle.std.specs.Int.RustNames.{FitsSigned}
 use Rattle.std.proofs.lemmas.Int.{to_z-of_z}
 use Rattle.argb_pixel.specs.Pixel.{clear}

@@ -1,4 +1,4 @@
-use Rattle.std.proofs.Common.{rules, ◌≡◌, ◌<◌, pos, ◌+ℤ◌, length, refl, sym, subst, ap, ◌∙◌, List, arith, w32, w64}
+use Rattle.std.proofs.Common.{rules, ◌≡◌, ◌<◌, pos, ◌+ℤ◌, length, sym, subst, ap, ◌∙◌, List, arith, w32, w64}
 use Rattle.std.specs.Int.RustNames.{FitsSigned}
 use Rattle.std.proofs.lemmas.Int.{to_z-of_z}
 use borrow.Rule.Slice.PartMut.{put_mid}

@@ -1,6 +1,5 @@
-use Rattle.std.proofs.Common.{rules, ◌≡◌, length, sym, subst, ap, ◌*◌, ◌+◌, ◌∙◌, arith, w32}
+use Rattle.std.proofs.Common.{rules, length, sym, subst, ap, ◌*◌, ◌∙◌, arith, w32}
 use Rattle.std.specs.Int.RustNames.{FitsSigned}
-use Rattle.std.specs.List.{between}
 use Rattle.std.proofs.lemmas.Int.{to_z-of_z}
 use Rattle.geom_rect.specs.Rect.{width_of}
 use Rattle.argb_world.specs.Picture.{Picture, HasRow}

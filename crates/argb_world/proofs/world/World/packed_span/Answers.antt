@@ -1,8 +1,7 @@
-use Rattle.std.proofs.Common.{◌≡◌, ap, length, ◌*◌, ℕ, pos, ◌+ℤ◌, ◌-◌, ◌∙◌, ◌<◌, ◌≤◌, ◌↔◌, List, sym, subst, arith, w64}
+use Rattle.std.proofs.Common.{◌≡◌, ap, length, ◌*◌, ℕ, pos, ◌+ℤ◌, ◌-◌, ◌∙◌, ◌<◌, ◌≤◌, ◌↔◌, sym, subst, arith, w64}
 use Rattle.std.specs.Int.RustNames.{FitsSigned}
 use Rattle.std.proofs.lemmas.Int.{to_z-of_z}
 use Rattle.geom_rect.specs.Rect.{Has}
-use Rattle.argb_pixel.specs.Pixel.{Argb}
 use Rattle.argb_world.specs.Picture.{Picture}
 use Rattle.argb_world.specs.Kept.{IsInRow}
 use Rattle.argb_pixel.specs.Packed.{pixel_size}

@@ -1,9 +1,7 @@
-use Rattle.std.proofs.Common.{rules, ◌≡◌, ℕ, pos, ◌+ℤ◌, ◌+◌, ◌-◌, ◌*◌, ◌<◌, ◌≤◌, ◌↔◌, length, replicate, ap, sym, subst, ◌∙◌, arith, w64}
+use Rattle.std.proofs.Common.{◌≡◌, ℕ, pos, ◌+ℤ◌, ◌+◌, ◌-◌, ◌*◌, ◌<◌, ◌≤◌, ◌↔◌, length, sym, subst, ◌∙◌, arith, w64}
 use Rattle.std.specs.Int.RustNames.{FitsSigned}
 use Rattle.std.proofs.lemmas.Int.{to_z-of_z}
-use Rattle.std.proofs.lemmas.List.{length-replicate}
 use Rattle.geom_rect.specs.Rect.{Has}
-use Rattle.argb_pixel.specs.Pixel.{clear}
 use Rattle.argb_pixel.specs.Packed.{pixel_size, pixels_of}
 use Rattle.std.proofs.Math.Nat.{mul-le-mul_left}
 use Rattle.argb_world.specs.Picture.{Picture}

@@ -1,4 +1,4 @@
-use Rattle.std.proofs.Common.{rules, ◌≡◌, ◌*◌, length, refl, sym, subst, ap, ◌∙◌, List, arith, w32}
+use Rattle.std.proofs.Common.{rules, ◌≡◌, ◌*◌, length, sym, subst, ap, ◌∙◌, List, arith, w32}
 use Rattle.std.specs.Int.RustNames.{FitsSigned}
 use Rattle.std.proofs.lemmas.Int.{to_z-of_z}
 use Rattle.geom_rect.specs.Rect.{width_of}

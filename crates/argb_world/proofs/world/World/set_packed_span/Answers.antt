@@ -1,9 +1,9 @@
-use Rattle.std.proofs.Common.{rules, ◌≡◌, length, sym, subst, ap, ◌∙◌, List, arith, w32}
+use Rattle.std.proofs.Common.{length, sym, subst, ap, ◌∙◌, List, arith, w32}
 use Rattle.std.specs.Int.RustNames.{FitsSigned}
 use Rattle.std.proofs.lemmas.Int.{to_z-of_z}
 use Rattle.argb_pixel.specs.Pixel.{Argb}
-use Rattle.argb_world.specs.Picture.{Picture, IsPicture, HasSpan, StaysOffSpan, span_of}
-use Rattle.argb_pixel.specs.Packed.{pixel_size, pixels_of}
+use Rattle.argb_world.specs.Picture.{Picture, HasSpan, StaysOffSpan, span_of}
+use Rattle.argb_pixel.specs.Packed.{pixels_of}
 use Rattle.argb_pixel.proofs.Parts.{pixels_length}
 use Rattle.argb_world.proofs.Rows.{picture}
 use Rattle.argb_world.proofs.Spans.{span_within, span_write}

@@ -1,8 +1,8 @@
-use Rattle.std.proofs.Common.{rules, ◌≡◌, length, sym, subst, ap, ◌∙◌, List, arith, w32}
+use Rattle.std.proofs.Common.{length, sym, subst, ap, ◌∙◌, List, arith, w32}
 use Rattle.std.specs.Int.RustNames.{FitsSigned}
 use Rattle.std.proofs.lemmas.Int.{to_z-of_z}
 use Rattle.argb_pixel.specs.Pixel.{Argb}
-use Rattle.argb_world.specs.Picture.{Picture, IsPicture, HasSpan, StaysOffSpan, span_of}
+use Rattle.argb_world.specs.Picture.{Picture, HasSpan, StaysOffSpan, span_of}
 use Rattle.argb_world.proofs.Rows.{picture}
 use Rattle.argb_world.proofs.Spans.{span_within, set_span_is, set_span_beside, filled_still}
 use Rattle.argb_world.proofs.world.World.set_span.Goals as goal
