@@ -1,10 +1,14 @@
 -- Files of clips, both ways.
 use Rattle.std.specs.Prelude.{◌≡◌, ℕ, ◌<◌, ℤ, pos, List, ◌++◌, map, length, take, drop, flat_map, Ok}
 use Rattle.std.specs.List.{All, range_with_len}
+use Rattle.argb_pixel.specs.Depth.{IsDepth}
 use Rattle.argb_pixel.specs.Pixel.{Argb, IsPremultiplied}
+use Rattle.argb_pixel.specs.Packed.{packed}
+use Rattle.argb_world.specs.Picture.{Picture, IsPicture, HasRow}
+use Rattle.argb_world.specs.Laws.{ArePackedRow, rows_down}
 use Rattle.project_model.specs.declared.clip.ClipUse.{ClipUse}
 use Rattle.project_model.specs.Bounds.{most_of}
-use Rattle.frame_file.specs.Afr.{header_bytes, pixel_bytes, picture_bytes}
+use Rattle.frame_file.specs.Afr.{header_bytes, pixel_bytes, picture_bytes, world_bytes}
 use Rattle.project_model.specs.Clip.{IsReadable, pixel_count}
 use Rattle.frame_file.specs.Clip.{header_of, clip_of, pictures_of}
 
@@ -41,3 +45,9 @@ picture_pixels width height at =
 -- a picture is written as the bytes of its pixels, one after another
 abbrev pub WritesPixels : Type 0
 WritesPixels = (depth width height : ℕ) (at : ℤ → ℤ → Argb) → picture_bytes depth width height at ≡ flat_map (pixel_bytes depth) (picture_pixels width height at)
+
+-- a picture is written as the bytes of all its pixels, which are its packed rows from top to bottom
+pub record WritesPackedRows : Type 0 where
+  pub pixels : (most : ℕ) (p : Picture) → IsDepth most → IsPicture p → world_bytes most p ≡ flat_map (packed most) p.pixels
+  pub rows : (most : ℕ) (p : Picture) (row : ℤ → List ℕ) → IsDepth most → IsPicture p
+      → ((y : ℤ) → HasRow p.part y → ArePackedRow most p y (row y)) → world_bytes most p ≡ rows_down p.part row
