@@ -3,7 +3,7 @@ use Rattle.std.proofs.Common.{◌≡◌, ℕ, zero, suc, ◌+◌, ◌*◌, ◌-�
 use Rattle.std.specs.List.{between}
 use Rattle.std.proofs.lemmas.Bool.{cases_lt}
 use Rattle.std.proofs.lemmas.List.{length-replicate, get_or-replicate, get_or_append_left, get_or-append_right, take-append-le, drop-append-le, append_assoc, replicate-append-replicate, nil_from_length, ext_get_or, take-replicate}
-use Rattle.std.proofs.lemmas.List.Elements.{All-nil}
+use Rattle.std.proofs.lemmas.List.Elements.{All-nil, All-append, All-replicate}
 use Rattle.std.specs.Vec.{with_items}
 use Rattle.std.proofs.lemmas.List.{with_items_is}
 use Rattle.std.proofs.lemmas.List.Edits.{length-between, get_or-between}
@@ -40,6 +40,12 @@ kept_length most w row capacity count width colour k =
     length-append (pixels_of most w) (replicate (count - length (pixels_of most w)) colour)
     ∙ ap (λ n. length (pixels_of most w) + n) (length-replicate (count - length (pixels_of most w)) colour)
     ∙ omega (arith, front_le most w row capacity count width colour k)
+
+pub kept_premultiplied : (most : ℕ) (w : List ℕ) (count : ℕ) (colour : Argb) → IsPacked most w → IsPremultiplied most colour → All (IsPremultiplied most) (kept most w count colour)
+unfolding kept
+kept_premultiplied most w count colour is fits =
+    All-append (IsPremultiplied most) (pixels_of most w) (replicate (count - length (pixels_of most w)) colour) is.premultiplied
+    (All-replicate (IsPremultiplied most) (count - length (pixels_of most w)) colour fits)
 
 pub kept_none : (most : ℕ) (w : List ℕ) (count : ℕ) (colour : Argb) → IsDepth most → length w ≡ 0 → kept most w count colour ≡ replicate count colour
 unfolding kept

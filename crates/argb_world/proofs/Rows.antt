@@ -1,5 +1,5 @@
 -- What a picture shows: at one point, along a row, and after a write.
-use Rattle.std.proofs.Common.{◌≡◌, ℕ, ◌<◌, ℤ, pos, negsuc, ◌-ℤ◌, ◌+ℤ◌, ◌≤ℤ◌, ◌<ℤ◌, Bool, true, false, List, length, get_or, set, replicate, refl, ap, sym, ◌∙◌, arith, if◌then◌else◌}
+use Rattle.std.proofs.Common.{◌≡◌, ℕ, ◌<◌, ℤ, pos, negsuc, ◌-ℤ◌, ◌+ℤ◌, ◌≤ℤ◌, ◌<ℤ◌, Bool, true, false, List, All, length, get_or, set, replicate, refl, ap, sym, subst, ◌∙◌, arith, if◌then◌else◌}
 use Rattle.std.specs.Bool.{IsTrue}
 use Rattle.std.specs.Prelude.{Option, Some, None, IfSome}
 use Rattle.std.proofs.lemmas.Int.{ints}
@@ -7,7 +7,7 @@ use Rattle.std.proofs.lemmas.Nat.{same_from_place}
 use Rattle.std.proofs.lemmas.List.{get_or-replicate, get_or-set_same, get_or-set_other, get_or_read}
 use Rattle.geom_rect.specs.declared.rect.Rect.{Rect}
 use Rattle.geom_rect.specs.Rect.{Has, positive_part, count_between, area_of, has, width_of}
-use Rattle.argb_pixel.specs.Pixel.{Argb, clear}
+use Rattle.argb_pixel.specs.Pixel.{Argb, clear, IsPremultiplied}
 use Rattle.argb_world.specs.Picture.{Picture, at, place_of, StaysBeside}
 use Rattle.argb_world.proofs.Places.{below, same_offset, place_lt}
 use Rattle.geom_rect.proofs.Points.{has-true, Has-from_true}
@@ -70,6 +70,21 @@ pub colour_everywhere : (e part : Rect) (xs : List Argb) (result : Option Argb) 
     → IfSome result (λ colour. (x y : ℤ) → Has part x y → at (picture e part xs) x y ≡ colour)
 colour_everywhere e part xs None filled alike = tt
 colour_everywhere e part xs (Some colour) filled alike = λ x y. at_alike e part xs colour x y (alike ∙ ap (λ n. replicate n colour) filled)
+
+-- premultiplied pixels, at each point
+clear_premultiplied : (most : ℕ) → IsPremultiplied most clear
+clear_premultiplied most = record { alpha = omega arith; red = omega arith; green = omega arith; blue = omega arith }
+
+pub at_premultiplied : (most : ℕ) (e part : Rect) (xs : List Argb) (x y : ℤ) → length xs ≡ area_of part → All (IsPremultiplied most) xs
+    → IsPremultiplied most (at (picture e part xs) x y)
+at_premultiplied most e part xs x y filled each = by (has part x y) refl
+  where
+    by : (t : Bool) → has part x y ≡ t → IsPremultiplied most (at (picture e part xs) x y)
+    by true is =
+        let h = Has-from_true part x y is in
+        subst (IsPremultiplied most) (sym (at_inside e part xs x y h))
+        (each (place_of part x y) clear (let low = place_lt part x y h in omega (arith, low, filled)))
+    by false is = subst (IsPremultiplied most) (sym (at_outside e part xs x y is)) (clear_premultiplied most)
 
 -- two points of the part with one place are one point
 pub same_place : (part : Rect) (x y u v : ℤ) → Has part x y → Has part u v → place_of part u v ≡ place_of part x y → (u ≡ x) × (v ≡ y)

@@ -1,9 +1,9 @@
 //! The pixels of a picture in rows. How they are kept is known here alone.
-ghost use Rattle.std.specs.Prelude.{◌≡◌, ◌≤◌, ◌<◌, ◌+◌, ◌*◌, ◌∷◌, [], IfOk, IfSome, length, replicate, slice_index_or, slice_set, vec_len, vec_capacity};
+ghost use Rattle.std.specs.Prelude.{◌≡◌, ◌≤◌, ◌<◌, ◌+◌, ◌*◌, ◌∷◌, [], All, IfOk, IfSome, length, replicate, slice_index_or, slice_set, vec_len, vec_capacity};
 ghost use Rattle.std.specs.List.{between};
 ghost use borrow.Rule.Slice.PartMut.{put_mid};
 ghost use Rattle.argb_pixel.specs.Depth.{IsDepth};
-ghost use Rattle.argb_pixel.specs.Pixel.{clear};
+ghost use Rattle.argb_pixel.specs.Pixel.{clear, IsPremultiplied};
 ghost use Rattle.argb_pixel.specs.Packed.{pixel_size, pixels_of, IsPacked};
 ghost use Rattle.argb_world.specs.Kept.{kept, IsKept, IsInRow};
 ghost use Rattle.argb_world.specs.Picture.{span_of, IsReach, greatest_part};
@@ -83,6 +83,14 @@ impl<const MAX: u32> Pixels<MAX> {
         } else {
             None
         }
+    }
+
+    /// All pixels are premultiplied. The call does nothing: its contract is the fact.
+    #[inline(always)]
+    pub(crate) fn are_premultiplied(&self)
+        ensures { All (IsPremultiplied MAX) self.now.pixels }
+    {
+        let _alpha = self.ground.colour.a();
     }
 
     /// The pixel at a place.

@@ -5,7 +5,7 @@ ghost use borrow.Rule.Slice.PartMut.{put_mid};
 ghost use Rattle.geom_rect.specs.Rect.{Has, IsWithin, area_of, positive_part, count_between, width_of};
 ghost use Rattle.argb_world.specs.Picture.{place_of, HasRow, HasSpan, IsReach, greatest_part};
 ghost use Rattle.argb_pixel.specs.Depth.{IsDepth};
-ghost use Rattle.argb_pixel.specs.Pixel.{clear};
+ghost use Rattle.argb_pixel.specs.Pixel.{clear, IsPremultiplied};
 ghost use Rattle.argb_pixel.specs.Packed.{pixel_size, pixels_of, IsPacked};
 ghost use Rattle.argb_world.specs.Kept.{IsInRow};
 
@@ -104,13 +104,15 @@ impl<const MAX: u32> World<MAX> {
         self.extent
     }
 
-    /// The part that has pixels.
+    /// The part that has pixels. At each point, also outside of it, the picture is premultiplied.
     pub fn part(&self) -> Rect
         ensures value { result ≡ self.now.part }
         ensures inside { IsWithin result self.now.extent }
         ensures bound { area_of result ≤ greatest_part }
         ensures depth { IsDepth MAX }
+        ensures pixels { (x y : ℤ) → IsPremultiplied MAX (at self.now x y) }
     {
+        self.pixels.are_premultiplied();
         self.part
     }
 
