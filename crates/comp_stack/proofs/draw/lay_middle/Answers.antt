@@ -5,7 +5,7 @@ use Rattle.comp_stack.specs.Stack.{step}
 use Rattle.std.specs.Int.RustNames.{FitsSigned}
 use Rattle.std.proofs.lemmas.Int.{ints, to_z-of_z}
 use Rattle.std.proofs.Math.Nat.{mul-le-mul_left}
-use Rattle.argb_pixel.specs.Packed.{pixel_size, pixels_of, IsPacked}
+use Rattle.argb_pixel.specs.Packed.{pixel_size, pixels_of}
 use Rattle.argb_pixel.proofs.Parts.{pixels_length}
 use Rattle.argb_pixel.proofs.Places.{part_length, part_packed, part_put_packed, part_read, part_put}
 use Rattle.comp_stack.specs.Layers.{layer_of}

@@ -1,7 +1,7 @@
-use Rattle.std.proofs.Common.{length, ap, sym, ◌∙◌, arith, w64}
+use Rattle.std.proofs.Common.{sym, ◌∙◌, arith, w64}
 use Rattle.std.specs.Int.RustNames.{FitsSigned}
 use Rattle.std.proofs.lemmas.Int.{to_z-of_z}
-use Rattle.argb_pixel.specs.Packed.{pixel_size, pixels_of}
+use Rattle.argb_pixel.specs.Packed.{pixels_of}
 use Rattle.argb_pixel.proofs.Parts.{pixels_length}
 use Rattle.comp_stack.specs.Layers.{layer_of}
 use Rattle.comp_stack.proofs.Laying.{row_laid}

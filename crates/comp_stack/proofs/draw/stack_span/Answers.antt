@@ -1,6 +1,6 @@
-use Rattle.std.proofs.Common.{rules, ◌≡◌, ◌≤◌, ◌*◌, length, map, ap, ◌∙◌, arith, w32, w64}
+use Rattle.std.proofs.Common.{rules, ◌≡◌, ◌*◌, length, map, ap, ◌∙◌, arith, w32, w64}
 use Rattle.std.specs.Int.RustNames.{FitsSigned}
-use Rattle.std.proofs.lemmas.Int.{ints, to_z-of_z}
+use Rattle.std.proofs.lemmas.Int.{to_z-of_z}
 use Rattle.argb_pixel.specs.Packed.{pixel_size, pixels_of}
 use Rattle.argb_pixel.proofs.Parts.{pixels_length}
 use Rattle.argb_world.specs.Picture.{span_of}

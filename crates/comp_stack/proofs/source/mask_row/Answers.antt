@@ -2,7 +2,7 @@ use Rattle.std.proofs.Common.{ap, sym, ◌∙◌}
 use Rattle.track_matte.specs.declared.matte.Matte.{Matte}
 use Rattle.track_matte.specs.Mattes.{matted}
 use Rattle.track_matte.proofs.Unchanged.{zip2_leaves, none_leaves}
-use Rattle.argb_pixel.specs.Packed.{pixel_size, pixels_of}
+use Rattle.argb_pixel.specs.Packed.{pixels_of}
 use Rattle.argb_pixel.proofs.Parts.{pixels_length}
 use Rattle.comp_stack.proofs.Sources.{length_mattes}
 use Rattle.comp_stack.proofs.source.mask_row.Goals as goal

@@ -1,5 +1,5 @@
 use Rattle.std.proofs.Common.{arith}
-use Rattle.argb_pixel.specs.Packed.{pixel_size, pixels_of}
+use Rattle.argb_pixel.specs.Packed.{pixels_of}
 use Rattle.comp_stack.proofs.Sources.{scaled_whole}
 use Rattle.comp_stack.proofs.source.scale_row.Goals as goal
 

@@ -3,7 +3,7 @@ use Rattle.std.specs.Prelude.{IfSome}
 use Rattle.std.specs.Int.RustNames.{FitsSigned}
 use Rattle.std.proofs.lemmas.Int.{to_z-of_z}
 use Rattle.argb_pixel.specs.Pixel.{Argb}
-use Rattle.argb_pixel.specs.Packed.{pixel_size, pixels_of}
+use Rattle.argb_pixel.specs.Packed.{pixels_of}
 use Rattle.comp_stack.specs.Layers.{layer_of}
 use Rattle.comp_stack.proofs.Sources.{span_is_pixels, whole_span_is}
 use Rattle.comp_stack.proofs.source.whole_source.Goals as goal
