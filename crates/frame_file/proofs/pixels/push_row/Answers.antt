@@ -1,4 +1,4 @@
-use Rattle.std.proofs.Common.{rules, ◌≡◌, ◌<◌, ◌++◌, All, length, ap, subst, ◌∙◌, w32}
+use Rattle.std.proofs.Common.{◌<◌, ◌++◌, All, length, ap, subst, ◌∙◌, w32}
 use Rattle.std.proofs.Math.Seq.{drop-append_seam}
 use Rattle.std.proofs.lemmas.List.Elements.{All-drop}
 use Rattle.std.specs.Int.RustNames.{FitsSigned}
