@@ -3,3 +3,4 @@ pub mod Nothing
 pub mod Laying
 pub mod Grounds
 pub mod Premultiplied
+pub mod Hiding

@@ -10,6 +10,7 @@ ghost use Rattle.comp_stack.specs.Stack.{pixel_at, step, stack_over};
 ghost use Rattle.comp_stack.specs.Spans.{IsNear, IsColumn};
 
 use crate::layer::{Placed, Shown};
+use crate::over::lay_row;
 use crate::source::{one_source, read_source, seen, whole_source};
 use argb_pixel::pixel_size;
 use argb_world::World;
@@ -84,7 +85,7 @@ fn lay_source<const MAX: u32>(
         ≡ step MAX (layer_of layer.now) (x +ℤ pos k) y (slice_index_or (pixels_of MAX into.old) k clear) }
 {
     match whole_source(layer, x, y, count) {
-        Some(row) => blend_packed::<MAX>(layer.mode, row, into),
+        Some(row) => lay_row::<MAX>(layer.mode, row, count, into),
         None => {
             read_source(layer, x, y, count, matte, source);
             blend_packed::<MAX>(layer.mode, source, into);

@@ -4,6 +4,7 @@
 mod draw;
 pub mod laws;
 mod layer;
+mod over;
 mod source;
 
 pub use draw::stack;
