@@ -18,7 +18,7 @@ const FRAME: Rect = Rect {
     left: 0,
     top: 0,
     right: 301,
-    bottom: 2,
+    bottom: 3,
 };
 
 const MODES: &[Mode] = &[
@@ -38,7 +38,7 @@ const MATTES: &[Matte] = &[
     Matte::LumaInverted,
 ];
 
-// A pixel by its place: alphas and colours that rise and fall, and are often clear or opaque.
+// A pixel by its place: alphas and colours that rise and fall, and are often clear or opaque. All of row 0 is opaque.
 fn wave<const MAX: u32>(number: u32, x: i32, y: i32) -> Pixel<MAX>
     requires { IsDepth MAX }
 {
@@ -51,7 +51,11 @@ fn wave<const MAX: u32>(number: u32, x: i32, y: i32) -> Pixel<MAX>
             .wrapping_add(number.wrapping_mul(shift))
             .wrapping_mul(MAX / 255)
     };
-    let a = (rise(7, 7) % (2 * MAX)).saturating_sub(MAX / 4).min(MAX);
+    let a = if y == 0 {
+        MAX
+    } else {
+        (rise(7, 7) % (2 * MAX)).saturating_sub(MAX / 4).min(MAX)
+    };
     let colour = |number: u32| (number % (2 * a + 1)).min(a);
     match Pixel::new(
         a,
@@ -79,7 +83,7 @@ fn picture<const MAX: u32>(alloc: Global, number: u32) -> Result<World<MAX>, Fai
     requires { IsDepth MAX }
 {
     let mut world = World::<MAX>::blank(alloc, FRAME, FRAME)?;
-    for y in 0..2 {
+    for y in 0..3 {
         for x in 0..301 {
             set_wave(&mut world, number, x, y);
         }
@@ -167,7 +171,7 @@ fn agree<const MAX: u32>(rt: &impl Abort, alloc: Global, layers: &[Placed<MAX>])
     let below = picture::<MAX>(alloc, 5)?;
     let mut ground = picture::<MAX>(alloc, 5)?;
     stack(&mut ground, layers);
-    for y in 0..2 {
+    for y in 0..3 {
         for x in 0..301 {
             let mut want = below.at(x, y);
             for layer in layers.iter().rev() {
