@@ -2,7 +2,7 @@
 use Rattle.std.proofs.Common.{◌≡◌, ℕ, zero, suc, ◌+◌, ◌*◌, ◌-◌, ◌<◌, ◌≤◌, List, [], ◌++◌, All, Vec, vec_len, vec_capacity, length, take, drop, get_or, replicate, ◌⊎◌, inl, inr, refl, ap, ap₂, sym, subst, ◌∙◌, arith, length-append, length-drop}
 use Rattle.std.specs.List.{between}
 use Rattle.std.proofs.lemmas.Bool.{cases_lt}
-use Rattle.std.proofs.lemmas.List.{length-replicate, get_or-replicate, get_or_append_left, get_or-append_right, take-append-le, drop-append-le, append_assoc, replicate-append-replicate, nil_from_length, ext_get_or, take-replicate}
+use Rattle.std.proofs.lemmas.List.{length-replicate, get_or-replicate, get_or_append_left, get_or-append_right, append-nil, take-append-le, drop-append-le, append_assoc, replicate-append-replicate, nil_from_length, ext_get_or, take-replicate}
 use Rattle.std.proofs.lemmas.List.Elements.{All-nil, All-append, All-replicate}
 use Rattle.std.specs.Vec.{with_items}
 use Rattle.std.proofs.lemmas.List.{with_items_is}
@@ -163,6 +163,15 @@ more_same most w row capacity count width end colour k le l =
     ap (λ (ps : List Argb). ps ++ replicate (count - length ps) colour) apart
     ∙ append_assoc front (replicate width colour) (replicate (count - length (front ++ replicate width colour)) colour)
     ∙ ap (λ ps. front ++ ps) (replicate-append-replicate width (count - length (front ++ replicate width colour)) colour ∙ ap (λ n. replicate n colour) left)
+
+-- all are written out
+pub kept_all : (most : ℕ) (w row : List ℕ) (capacity count width : ℕ) (colour : Argb) → IsKept most w capacity count width row colour
+    → pixel_size most * count ≤ length w → kept most w count colour ≡ pixels_of most w
+unfolding kept
+kept_all most w row capacity count width colour k all =
+    let enough : count ≤ length (pixels_of most w) = few_whole most (length (pixels_of most w)) count k.depth (omega (arith, all, k.written.whole)) in
+    let none : count - length (pixels_of most w) ≡ 0 = omega (arith, enough) in
+    ap (λ n. pixels_of most w ++ replicate n colour) none ∙ append-nil (pixels_of most w)
 
 -- ---- a part is written over, where it is written out
 

@@ -1,10 +1,10 @@
 //! The pixels of a picture in rows. How they are kept is known here alone.
-ghost use Rattle.std.specs.Prelude.{◌≡◌, ◌≤◌, ◌<◌, ◌+◌, ◌*◌, ◌∷◌, [], All, IfOk, IfSome, length, replicate, slice_index_or, slice_set, vec_len, vec_capacity};
+ghost use Rattle.std.specs.Prelude.{◌≡◌, ◌≤◌, ◌<◌, ◌+◌, ◌*◌, ◌∷◌, [], All, flat_map, IfOk, IfSome, length, replicate, slice_index_or, slice_set, vec_len, vec_capacity};
 ghost use Rattle.std.specs.List.{between};
 ghost use borrow.Rule.Slice.PartMut.{put_mid};
 ghost use Rattle.argb_pixel.specs.Depth.{IsDepth};
 ghost use Rattle.argb_pixel.specs.Pixel.{clear, IsPremultiplied};
-ghost use Rattle.argb_pixel.specs.Packed.{pixel_size, pixels_of, IsPacked};
+ghost use Rattle.argb_pixel.specs.Packed.{pixel_size, packed, pixels_of, IsPacked};
 ghost use Rattle.argb_world.specs.Kept.{kept, IsKept, IsInRow};
 ghost use Rattle.argb_world.specs.Picture.{span_of, IsReach, greatest_part};
 
@@ -138,6 +138,18 @@ impl<const MAX: u32> Pixels<MAX> {
         ensures pixels { pixels_of MAX into.new ≡ between start (start + count) self.now.pixels }
     {
         into.copy_from_slice(self.lend(start, count));
+    }
+
+    /// The bytes of all pixels. It takes no memory.
+    pub(crate) fn into_packed(self) -> Vec<u8>
+        ensures { result.items ≡ flat_map (packed MAX) self.entry.pixels }
+    {
+        let Pixels {
+            mut written,
+            ground,
+        } = self;
+        write_out(&mut written, &ground, ground.count);
+        written
     }
 
     /// Sets the pixel at a place.

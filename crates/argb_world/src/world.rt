@@ -1,12 +1,12 @@
-ghost use Rattle.std.specs.Prelude.{◌≡◌, ◌≤◌, ℕ, ℤ, pos, IfOk, IfSome, length, ◌+◌, ◌-◌, ◌*◌, ◌<◌, ◌+ℤ◌, ◌↔◌, IsTrue};
+ghost use Rattle.std.specs.Prelude.{◌≡◌, ◌≤◌, ℕ, ℤ, pos, flat_map, IfOk, IfSome, length, ◌+◌, ◌-◌, ◌*◌, ◌<◌, ◌+ℤ◌, ◌↔◌, IsTrue};
 ghost use Rattle.std.specs.Prelude.{◌≤ℤ◌, ◌<ℤ◌, ◌-ℤ◌};
 ghost use Rattle.std.specs.List.{between};
 ghost use borrow.Rule.Slice.PartMut.{put_mid};
 ghost use Rattle.geom_rect.specs.Rect.{Has, IsWithin, area_of, positive_part, count_between, width_of};
-ghost use Rattle.argb_world.specs.Picture.{place_of, HasRow, HasSpan, IsReach, greatest_part};
+ghost use Rattle.argb_world.specs.Picture.{IsPicture, place_of, HasRow, HasSpan, IsReach, greatest_part};
 ghost use Rattle.argb_pixel.specs.Depth.{IsDepth};
 ghost use Rattle.argb_pixel.specs.Pixel.{clear, IsPremultiplied};
-ghost use Rattle.argb_pixel.specs.Packed.{pixel_size, pixels_of, IsPacked};
+ghost use Rattle.argb_pixel.specs.Packed.{pixel_size, packed, pixels_of, IsPacked};
 ghost use Rattle.argb_world.specs.Kept.{IsInRow};
 
 use crate::packed::fill_row;
@@ -219,6 +219,20 @@ impl<const MAX: u32> World<MAX> {
     {
         let start = place(&self.part, self.part.left, y);
         self.pixels.write_packed(start, width(&self.part), bytes);
+    }
+
+    /// The bytes of all pixels of the part, its rows from top to bottom, as `packed_row` has them. It takes no memory.
+    pub fn into_packed(self) -> Vec<u8>
+        ensures depth { IsDepth MAX }
+        ensures picture { IsPicture self.entry }
+        ensures bytes { result.items ≡ flat_map (packed MAX) self.entry.pixels }
+    {
+        let World {
+            extent: _,
+            part: _,
+            pixels,
+        } = self;
+        pixels.into_packed()
     }
 
     /// The bytes of the pixels of a row of points, from `(x, y)` to the right, as they are kept: none where the points are not

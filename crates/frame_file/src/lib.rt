@@ -13,4 +13,4 @@ pub use clip::{Clip, read_clip};
 pub use error::{ClipError, LoadError};
 pub use header::{Header, header_bytes};
 pub use load::load_clips;
-pub use pixels::frame_bytes;
+pub use pixels::{frame_bytes, into_frame_bytes};

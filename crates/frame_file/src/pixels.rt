@@ -24,6 +24,13 @@ pub fn frame_bytes<const MAX: u32>(alloc: Global, world: &World<MAX>) -> Result<
     Ok(bytes)
 }
 
+/// The pixels of a picture's part, as `frame_bytes` has them, in the memory of the picture. It takes none.
+pub fn into_frame_bytes<const MAX: u32>(world: World<MAX>) -> Vec<u8>
+    ensures { result.items ≡ afr.world_bytes MAX world.entry }
+{
+    world.into_packed()
+}
+
 // How many whole numbers there are from `low`, inclusive, to `high`, exclusive.
 fn count(low: i32, high: i32) -> usize
     ensures { result ≡ count_between low high }

@@ -2,7 +2,7 @@
 
 use argb_pixel::Pixel;
 use argb_world::World;
-use frame_file::{Header, frame_bytes, header_bytes};
+use frame_file::{Header, frame_bytes, header_bytes, into_frame_bytes};
 use geom_rect::Rect;
 use std::test::Fail;
 
@@ -20,6 +20,10 @@ fn pixels_of_both_depths(rt: HostRuntime) -> Result<(), Fail> {
         frame_bytes(rt.alloc(), &wide)?.as_slice(),
         [0x80, 0, 0x40, 0, 0, 0, 0, 1].as_slice()
     );
+    assert_eq!(rt;
+        into_frame_bytes(wide).as_slice(),
+        [0x80, 0, 0x40, 0, 0, 0, 0, 1].as_slice()
+    );
     let tall = Rect {
         left: 5,
         top: -1,
@@ -30,6 +34,10 @@ fn pixels_of_both_depths(rt: HostRuntime) -> Result<(), Fail> {
     narrow.set(5, -1, Pixel::of_channels(255, 10, 20, 30));
     assert_eq!(rt;
         frame_bytes(rt.alloc(), &narrow)?.as_slice(),
+        [255, 10, 20, 30, 0, 0, 0, 0].as_slice()
+    );
+    assert_eq!(rt;
+        into_frame_bytes(narrow).as_slice(),
         [255, 10, 20, 30, 0, 0, 0, 0].as_slice()
     );
     Ok(())

@@ -1,6 +1,6 @@
 ghost use Rattle.argb_pixel.specs.Depth.{IsDepth};
 
-use argb_pixel::{Pixel, Transparent};
+use argb_pixel::{Pixel, Transparent, pixel_size};
 use argb_world::World;
 use geom_rect::Rect;
 use std::alloc::Global;
@@ -91,6 +91,10 @@ fn packs<const MAX: u32>(
     }
     assert_eq!(rt; world.packed_span(-3, -1, 5), Some(bytes));
     assert_eq!(rt; world.packed_span(-4, -1, 3), None);
+    // The last of three rows.
+    let all = copy.into_packed();
+    assert_eq!(rt; all.len(), 3 * 5 * pixel_size::<MAX>());
+    assert!(rt; all.as_slice().ends_with(bytes));
     Ok(())
 }
 
