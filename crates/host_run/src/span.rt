@@ -40,7 +40,7 @@ fn header_of(scene: &Scene, comp: &Comp, first: u32, count: u32) -> Header
     }
 }
 
-/// The pixels of a frame. The picture is let go before they are written.
+/// The pixels of a frame, in the memory of its picture.
 fn frame_pixels<const MAX: u32>(
     alloc: Global,
     scene: &Scene,
@@ -53,7 +53,7 @@ fn frame_pixels<const MAX: u32>(
     ensures { IfOk result (λ bytes. bytes.items ≡ frame_bytes (plain_scene scene.now) (plain_comp comp.now) frame) }
 {
     let picture = draw_frame::<MAX>(alloc, scene, frame)?;
-    frame_file::frame_bytes(alloc, &picture)
+    Ok(frame_file::into_frame_bytes(picture))
 }
 
 /// Draws a frame and writes it as one piece.

@@ -1,12 +1,8 @@
-use Rattle.std.proofs.Common.{ℕ, List, Result, Ok, Err, IfOk, ◌≡◌, ◌∙◌, lit<, arith}
+use Rattle.std.proofs.Common.{◌∙◌, lit<, arith}
 use Rattle.project_model.specs.Plain.{plain_of, plain_comp}
 use Rattle.scene_meaning.specs.Scene.{plain_scene}
 use Rattle.host_run.proofs.Frames.{count_is, frame_as_bytes}
 use Rattle.host_run.proofs.span.frame_pixels.Goals as goal
-
-ok_then : {V E : Type 0} (bytes_of : V → List ℕ) (xs ys : List ℕ) (r : Result V E) → xs ≡ ys → IfOk r (λ v. bytes_of v ≡ xs) → IfOk r (λ v. bytes_of v ≡ ys)
-ok_then bytes_of xs ys (Ok v) e h = h ∙ e
-ok_then bytes_of xs ys (Err x) e h = tt
 
 pub draw_frame-requires : goal.draw_frame-requires
 draw_frame-requires g c =
@@ -16,7 +12,6 @@ draw_frame-requires g c =
 pub returns : goal.returns
 returns g c =
     let scene = c.args.scene.now in
-    let bytes_are =
-    frame_as_bytes g.row.MAX (plain_scene scene) (plain_comp c.args.comp.now) c.args.frame c.in_ok-picture.picture c.requires.depth scene.project.bits
-    c.requires.root c.in_ok-picture.ensures in
-    ok_then (λ v. v.items) _ _ c.frame_bytes.result bytes_are c.frame_bytes.ensures
+    c.into_frame_bytes.ensures
+    ∙ frame_as_bytes g.row.MAX (plain_scene scene) (plain_comp c.args.comp.now) c.args.frame c.in_ok-picture.picture c.requires.depth scene.project.bits
+    c.requires.root c.in_ok-picture.ensures
