@@ -1,4 +1,7 @@
+pub mod Drawn
+pub mod Nodes
 pub mod Output
 pub mod Scene
 pub mod Shown
+pub mod Steady
 pub mod Worked

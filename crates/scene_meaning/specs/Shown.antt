@@ -1,5 +1,5 @@
 -- What a composition shows at a tick.
-use Rattle.std.specs.Prelude.{◌≡◌, ℕ, zero, suc, ◌+◌, ℤ, pos, ◌*ℤ◌, ◌-ℤ◌, List, [], ◌∷◌, length, slice_get, unsigned_abs, unwrap_or, int_le, int_lt, Bool, false, not, ◌&&◌, if◌then◌else◌, Option, Some, None}
+use Rattle.std.specs.Prelude.{◌≡◌, ℕ, zero, suc, ◌+◌, ℤ, pos, ◌*ℤ◌, ◌-ℤ◌, List, [], ◌∷◌, length, fold, take, nat_lt, slice_get, unsigned_abs, unwrap_or, int_le, int_lt, Bool, false, not, ◌&&◌, if◌then◌else◌, Option, Some, None}
 use Rattle.std.specs.Option.{option_map_or}
 use Rattle.geom_rect.specs.Rect.{has, frame_rect}
 use Rattle.argb_pixel.specs.Pixel.{Argb, clear}
@@ -18,15 +18,22 @@ use Rattle.project_model.specs.declared.item.Item.{Item}
 use Rattle.project_model.specs.declared.item.Item.TheVariants.{Solid, Clip, Comp}
 use Rattle.project_model.specs.declared.node.NodeId.{NodeId}
 use Rattle.project_model.specs.declared.node.NodeId.TheVariants.{Source, Fx, Stack}
+use Rattle.project_model.specs.declared.plain.PlainFx.{PlainFx}
 use Rattle.project_model.specs.declared.plain.PlainLayer.{PlainLayer}
 use Rattle.project_model.specs.declared.plain.PlainComp.{PlainComp}
 use Rattle.project_model.specs.declared.plain.PlainProject.{PlainProject}
 use Rattle.frame_file.specs.Clip.{Pictures, pixel_in}
+use Rattle.effect_api.specs.declared.moment.Want.{Want}
+use Rattle.effect_api.specs.Sets.{EffectSet, Drawing}
+use Rattle.scene_meaning.specs.Drawn.{nothing, use_in, moment_at, input_plane, drawn_plane}
 
--- a project with the pictures of its clips, in the order in which it declares them
+-- a project with the pictures of its clips, in the order in which it declares them, and the effects that it uses
 pub record PlainScene : Type 0 where
   pub project : PlainProject
   pub clips : List Pictures
+  -- what each effect draws from and where, and what it draws at the project's depth
+  pub set : EffectSet
+  pub drawing : Drawing
 
 -- the ticks of a second: the least common multiple of all scales that the project writes
 abbrev pub base_in : PlainProject → ℕ
@@ -39,10 +46,6 @@ most_in scene = most_of scene.project.depth
 -- what the composition of an index shows at a tick and a point
 abbrev pub Showing : Type 0
 Showing = ℕ → ℤ → ℤ → ℤ → Argb
-
--- nowhere
-abbrev pub nothing : Plane
-nothing = record { extent = frame_rect 0 0; at = λ x y. clear }
 
 -- ---- clips
 
@@ -67,12 +70,14 @@ clip_plane scene index t =
 
 -- ---- what layers take from
 
--- what layers are drawn from: clips and compositions by their indices, at ticks of their own
+-- what layers are drawn from: clips and compositions by their indices, at ticks of their own, and effects
 pub record Sources : Type 0 where
   -- the ticks of a second
   pub base : ℕ
   pub clip : ℕ → ℤ → Plane
   pub comp : ℕ → ℤ → Plane
+  pub set : EffectSet
+  pub drawing : Drawing
 
 -- over the frame of a composition, what it shows
 abbrev pub comp_plane : Showing → ℕ → Option PlainComp → ℤ → Plane
@@ -85,6 +90,8 @@ sources_of scene showing = record {
   base = base_in scene.project;
   clip = clip_plane scene;
   comp = λ index t. comp_plane showing index (slice_get scene.project.comps index) t;
+  set = scene.set;
+  drawing = scene.drawing;
 }
 
 -- the tick since a layer that starts at this time began, within 36,000 seconds of zero
@@ -100,6 +107,27 @@ plane_of_item sources start (Comp index) t = sources.comp index (since sources.b
 -- the plane of a layer's source at a tick
 abbrev pub source_plane : Sources → PlainLayer → ℤ → Plane
 source_plane sources layer t = plane_of_item sources layer.start layer.source t
+
+-- ---- effects
+
+-- the plane of the source of a composition's layer, by its index
+abbrev pub named_plane : Sources → PlainComp → ℕ → ℤ → Plane
+named_plane sources comp index t = option_map_or (λ layer. source_plane sources layer t) (slice_get comp.layers index) nothing
+
+-- the plane of an effect of one of the composition's layers, where its input shows this
+abbrev pub fx_plane : Sources → PlainComp → (ℤ → Plane) → PlainFx → ℤ → Plane
+fx_plane sources comp input fx t =
+    drawn_plane sources.set sources.drawing (use_in fx) (moment_at sources.base (tick_of sources.base comp.frame) t)
+    (λ (want : Want). input_plane want.input input (named_plane sources comp) fx.layers want.tick.0)
+
+-- the plane of a layer behind some of its effects, the first of which is drawn from the layer's source, and each other from the one
+-- before it
+abbrev pub plane_behind : Sources → PlainComp → PlainLayer → List PlainFx → ℤ → Plane
+plane_behind sources comp layer effects = fold (fx_plane sources comp) (source_plane sources layer) effects
+
+-- the plane of a layer behind all of its effects
+abbrev pub layer_plane : Sources → PlainComp → PlainLayer → ℤ → Plane
+layer_plane sources comp layer = plane_behind sources comp layer layer.effects
 
 -- ---- layers
 
@@ -117,9 +145,9 @@ abbrev pub is_seen : ℕ → PlainComp → ℤ → PlainLayer → Bool
 is_seen base comp t layer = int_le (tick_of base layer.in_point) t && int_lt t (end_of_layer base comp layer.out_point)
 
 -- a layer's plane where its streams put it at a tick
-abbrev pub plane_in : Sources → ℤ → PlainLayer → PlacedPlane
-plane_in sources t layer = record {
-  plane = source_plane sources layer t;
+abbrev pub plane_in : Sources → PlainComp → ℤ → PlainLayer → PlacedPlane
+plane_in sources comp t layer = record {
+  plane = layer_plane sources comp layer t;
   x = value_at sources.base layer.x t;
   y = value_at sources.base layer.y t;
   opacity = unsigned_abs (value_at sources.base layer.opacity t);
@@ -128,7 +156,7 @@ plane_in sources t layer = record {
 -- the plane of a layer that is seen
 abbrev pub seen_plane : Sources → PlainComp → ℤ → Option PlainLayer → Option PlacedPlane
 seen_plane sources comp t None = None
-seen_plane sources comp t (Some layer) = if is_seen sources.base comp t layer then Some (plane_in sources t layer) else None
+seen_plane sources comp t (Some layer) = if is_seen sources.base comp t layer then Some (plane_in sources comp t layer) else None
 
 -- what the matte of the layer of this index is taken from: the layer above, where it is seen
 abbrev pub matte_plane : Sources → PlainComp → ℤ → ℕ → PlainLayer → Option PlacedPlane
@@ -139,7 +167,7 @@ matte_plane sources comp t index layer =
 -- accepts, it is Normal, and has none.
 abbrev pub placed_of : Sources → PlainComp → ℤ → ℕ → PlainLayer → PlacedLayer
 placed_of sources comp t index layer = record {
-  layer = plane_in sources t layer;
+  layer = plane_in sources comp t layer;
   mode = unwrap_or layer.mode Normal;
   matte = unwrap_or layer.matte matte.None;
   over = matte_plane sources comp t index layer;
@@ -185,13 +213,26 @@ shown scene = shown_in (length scene.project.comps) scene
 
 -- ---- nodes
 
--- The plane of a node at a tick: of a layer's source, or of what a composition shows. Effects are not drawn yet, and no project that
--- the program reads has one.
+-- the plane of the source of a layer of a composition
+abbrev pub source_node : Sources → Option PlainComp → ℕ → ℤ → Plane
+source_node sources None layer t = nothing
+source_node sources (Some comp) layer t = named_plane sources comp layer t
+
+-- the plane of a layer behind its effect of this index
+abbrev pub effect_node : Sources → PlainComp → Option PlainLayer → ℕ → ℤ → Plane
+effect_node sources comp None index t = nothing
+effect_node sources comp (Some layer) index t =
+    if nat_lt index (length layer.effects) then plane_behind sources comp layer (take (suc index) layer.effects) t else nothing
+
+-- the same, of a layer of a composition
+abbrev pub fx_node : Sources → Option PlainComp → ℕ → ℕ → ℤ → Plane
+fx_node sources None layer index t = nothing
+fx_node sources (Some comp) layer index t = effect_node sources comp (slice_get comp.layers layer) index t
+
+-- The plane of a node at a tick: of a layer's source, of an effect, or of what a composition shows.
 abbrev pub plane : PlainScene → NodeId → ℤ → Plane
-plane scene (Source comp layer) t =
-    option_map_or (λ here. source_plane (sources_of scene (shown scene)) here t)
-    (slice_get (option_map_or (λ here. here.layers) (slice_get scene.project.comps comp) []) layer) nothing
-plane scene (Fx comp layer index) t = nothing
+plane scene (Source comp layer) t = source_node (sources_of scene (shown scene)) (slice_get scene.project.comps comp) layer t
+plane scene (Fx comp layer index) t = fx_node (sources_of scene (shown scene)) (slice_get scene.project.comps comp) layer index t
 plane scene (Stack comp) t = comp_plane (shown scene) comp (slice_get scene.project.comps comp) t
 
 -- ---- laws

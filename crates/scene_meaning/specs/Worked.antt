@@ -15,14 +15,30 @@ use Rattle.project_model.specs.declared.plain.PlainLayer.{PlainLayer}
 use Rattle.project_model.specs.declared.plain.PlainProject.{PlainProject}
 use Rattle.project_model.specs.Constant.{zero_time, constant}
 use Rattle.project_model.specs.Worked.{two_pixel_project}
-use Rattle.argb_pixel.specs.Pixel.{Argb}
+use Rattle.geom_rect.specs.Rect.{origin}
+use Rattle.argb_pixel.specs.Pixel.{Argb, clear}
+use Rattle.effect_api.specs.Sets.{EffectSet, Drawing}
 use Rattle.frame_file.specs.Clip.{pictures_of}
 use Rattle.scene_meaning.specs.Shown.{PlainScene}
 use Rattle.scene_meaning.specs.Output.{file}
 
--- a project that uses no clip
+-- no effects
+abbrev pub no_effects : EffectSet
+no_effects = record {
+  schemas = [];
+  class_names = [];
+  wants = λ fx at. [];
+  asks = λ fx at. [];
+  bounds = λ fx at extents. origin;
+  need = λ fx at extents i rect. rect;
+}
+
+abbrev pub no_drawing : Drawing
+no_drawing = record { draws = λ fx at planes sums x y. clear; sums_of = λ class ask plane. [] }
+
+-- a project that uses no clip and no effect
 abbrev pub alone : PlainProject → PlainScene
-alone project = record { project = project; clips = [] }
+alone project = record { project = project; clips = []; set = no_effects; drawing = no_drawing }
 
 -- the header of so many frames from 0 on: two pixels by one, 8 bit, 24 frames a second
 abbrev pub two_pixel_header : ℕ → List ℕ
@@ -215,6 +231,8 @@ clip_scene depth frames declared pixels = record {
     comps = pixel_comp frames (begun_at (pos 1) (Clip 0) ∷ []) ∷ [];
   };
   clips = pictures_of declared pixels ∷ [];
+  set = no_effects;
+  drawing = no_drawing;
 }
 
 -- there is no picture before the first and after the last

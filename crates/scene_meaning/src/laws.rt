@@ -1,5 +1,6 @@
 //! Laws over the definitions, each the contract of a function that does nothing.
 ghost use Rattle.scene_meaning.specs.Shown.{ShownIsOfWhatIsShown, MoreTurnsChangeNothing};
+ghost use Rattle.scene_meaning.specs.Nodes.{NodesAreDrawn};
 ghost use Rattle.scene_meaning.specs.Worked.{TwoPixelsAreDrawn, EndedIsNotDrawn, MovingIsDrawn, HalfIsDrawn, SixteenBitsAreDrawn, MatteIsDrawn, ModeIsDrawn, NestedIsDrawn, ClipIsDrawn, ClipIsWidened, ClipIsNarrowed};
 
 /// A composition shows its layers, whose nested compositions show what they show.
@@ -10,6 +11,12 @@ pub fn shown_is_of_what_is_shown()
 /// What a composition shows is told in as many turns as it takes; more of them change nothing.
 pub fn more_turns_change_nothing()
     ensures { MoreTurnsChangeNothing }
+{}
+
+/// Each effect is drawn from what it wants, a layer of a nested composition shows that composition's stack, and a composition shows the
+/// last node of each layer.
+pub fn nodes_are_drawn()
+    ensures { NodesAreDrawn }
 {}
 
 /// The file of the worked example, computed by the definitions: two pixels, 37 bytes.

@@ -1,11 +1,11 @@
 //! A project with its clips, ready to be drawn.
 ghost use Rattle.std.specs.Prelude.{◌≡◌, ◌<◌, length, slice_get, Some, IfOk};
-ghost use Rattle.std.specs.List.{AllZip};
+ghost use Rattle.std.specs.List.{All, AllZip};
 ghost use Rattle.project_model.specs.Nesting.{ranks_of};
 ghost use Rattle.project_model.specs.Plain.{plain_of};
 ghost use Rattle.project_model.specs.Sound.{IsSound};
 ghost use Rattle.project_model.specs.declared.clip.ClipUse.{ClipUse};
-ghost use Rattle.scene_meaning.specs.Scene.{IsClipOf};
+ghost use Rattle.scene_meaning.specs.Scene.{IsClipOf, EndsInTime};
 
 use frame_file::Clip;
 use host_io::Memory;
@@ -32,11 +32,12 @@ impl Model for Scene {
 }
 
 impl Scene {
-    /// The scene of a project that `check` accepted with these ranks, and of its clips, each read with the declaration of its
-    /// index.
+    /// The scene of a project that `check` accepted with these ranks, so that each composition ends within 36,000 seconds, and of its
+    /// clips, each read with the declaration of its index.
     pub fn new(project: Project, clips: Vec<Clip>, ranks: Ranks) -> Result<Scene, Memory>
         requires sound { IsSound project }
         requires clips { AllZip IsClipOf project.clips clips.items }
+        requires lengths { All EndsInTime project.comps }
         requires ranks { ranks ≡ ranks_of (plain_of project) }
         ensures { IfOk result (λ scene. scene ≡ record { project = project; clips = clips.items; ranks = ranks }) }
     {
@@ -51,6 +52,7 @@ impl Scene {
     pub fn project(&self) -> &Project
         ensures project { result.now ≡ self.now.project }
         ensures sound { IsSound result.now }
+        ensures lengths { All EndsInTime result.now.comps }
     {
         &self.project
     }
