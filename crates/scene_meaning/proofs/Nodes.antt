@@ -1,6 +1,6 @@
 -- What the planes of nodes are drawn from.
 use Rattle.std.proofs.Common.{◌≡◌, ℕ, zero, suc, ◌<◌, ◌≤◌, ℤ, List, [], ◌∷◌, length, refl, sym, ap, ◌∙◌, arith}
-use Rattle.std.specs.Prelude.{Option, Some, None, slice_get, take, Bool, nat_lt, if◌then◌else◌}
+use Rattle.std.specs.Prelude.{Option, Some, None, slice_get, take, Bool, if◌then◌else◌}
 use Rattle.std.specs.List.{fold}
 use Rattle.std.specs.Option.{option_map_or}
 use Rattle.std.proofs.lemmas.Bool.{lt-ltb}
@@ -9,15 +9,14 @@ use Rattle.rational_time.specs.Times.{tick_of}
 use Rattle.comp_stack.specs.Stack.{Plane}
 use Rattle.project_model.specs.Nodes.{node_behind, fx_at}
 use Rattle.project_model.specs.declared.item.Item.{Item}
-use Rattle.project_model.specs.declared.item.Item.TheVariants.{Comp}
-use Rattle.project_model.specs.declared.node.NodeId.TheVariants.{Source, Fx, Stack}
+use Rattle.project_model.specs.declared.node.NodeId.TheVariants.{Source}
 use Rattle.project_model.specs.declared.plain.PlainFx.{PlainFx}
 use Rattle.project_model.specs.declared.plain.PlainLayer.{PlainLayer}
 use Rattle.project_model.specs.declared.plain.PlainComp.{PlainComp}
 use Rattle.effect_api.specs.declared.moment.Want.{Want}
 use Rattle.scene_meaning.specs.Drawn.{nothing, use_in, moment_at, input_plane, drawn_plane}
-use Rattle.scene_meaning.specs.Nodes.{wanted_plane, FxIsDrawn, NestedIsShown, LastNodeIsShown, NodesAreDrawn}
-use Rattle.scene_meaning.specs.Shown.{PlainScene, Sources, base_in, since, sources_of, shown, plane, plane_of_item, source_plane, named_plane, fx_plane, plane_behind, layer_plane, source_node, effect_node, fx_node}
+use Rattle.scene_meaning.specs.Nodes.{FxIsDrawn, NestedIsShown, LastNodeIsShown, NodesAreDrawn}
+use Rattle.scene_meaning.specs.Shown.{PlainScene, Sources, base_in, sources_of, shown, plane, plane_of_item, source_plane, named_plane, fx_plane, plane_behind, source_node, effect_node, fx_node}
 
 -- a fold over one more
 fold_more : {A B : Type 0} (f : B → A → B) (z : B) (xs : List A) (k : ℕ) (x : A) → slice_get xs k ≡ Some x → fold f z (take (suc k) xs) ≡ f (fold f z (take k xs)) x
@@ -70,11 +69,11 @@ fx_drawn scene comp layer index here fx t found at =
     let drawn : (Want → Plane) → Plane = drawn_plane scene.set scene.drawing (use_in fx) (moment_at (base_in scene.project) (tick_of (base_in scene.project) here.frame) t) in
     let there = fx_found scene comp layer index here fx found at in
     let it : PlainLayer = there.0 in
-    let within : index < length it.effects = slice_get_within it.effects index fx there.1.1 in
-    behind_is scene comp layer (suc index) here it t found there.1.0 (omega (arith, within))
-    ∙ ap (λ (p : ℤ → Plane). p t) (behind_more (from scene) here it it.effects index fx there.1.1)
+    let within : index < length it.effects = slice_get_within it.effects index fx there.2 in
+    behind_is scene comp layer (suc index) here it t found there.1 (omega (arith, within))
+    ∙ ap (λ (p : ℤ → Plane). p t) (behind_more (from scene) here it it.effects index fx there.2)
     ∙ ap (λ (input : ℤ → Plane). drawn (λ want. input_plane want.input input (named_plane (from scene) here) fx.layers want.tick.0))
-    (λ i u. sym (behind_is scene comp layer index here it u found there.1.0 (omega (arith, within))) i)
+    (λ i u. sym (behind_is scene comp layer index here it u found there.1 (omega (arith, within))) i)
     ∙ ap (λ (named : ℕ → ℤ → Plane). drawn (λ want. input_plane want.input (plane scene (node_behind comp layer index)) named fx.layers want.tick.0))
     (λ i other u. sym (named_is scene comp other here u found) i)
 

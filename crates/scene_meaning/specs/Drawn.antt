@@ -1,5 +1,5 @@
 -- What an effect draws, from the planes that it wants.
-use Rattle.std.specs.Prelude.{ℕ, zero, suc, ℤ, List, [], length, map, slice_get, unwrap_or}
+use Rattle.std.specs.Prelude.{ℕ, zero, suc, ℤ, List, [], map, slice_get, unwrap_or}
 use Rattle.std.specs.Option.{option_map_or}
 use Rattle.geom_rect.specs.Rect.{frame_rect}
 use Rattle.argb_pixel.specs.Pixel.{clear}

@@ -1,5 +1,5 @@
 -- What the planes of nodes are drawn from.
-use Rattle.std.specs.Prelude.{◌≡◌, ℕ, ℤ, List, length, slice_get, Option, Some}
+use Rattle.std.specs.Prelude.{◌≡◌, ℕ, ℤ, List, length, slice_get, Some}
 use Rattle.rational_time.specs.Times.{tick_of}
 use Rattle.comp_stack.specs.Stack.{Plane}
 use Rattle.project_model.specs.Nodes.{node_behind, fx_at}
