@@ -1,7 +1,10 @@
 -- Ticks of frames, and what holds of each of a list.
-use Rattle.std.proofs.Common.{◌≡◌, ℕ, zero, suc, ◌+◌, ◌<◌, ◌≤◌, ℤ, pos, negsuc, ◌*ℤ◌, ◌≤ℤ◌, ◌<ℤ◌, List, length, get_or, sym, ap, subst, ◌∙◌, arith}
-use Rattle.std.specs.Prelude.{Some, option_map, slice_get, All}
-use Rattle.std.proofs.lemmas.Int.{ints}
+use Rattle.std.proofs.Common.{◌≡◌, ℕ, zero, suc, ◌+◌, ◌*◌, ◌<◌, ◌≤◌, false, inl, inr, ℤ, pos, negsuc, ◌*ℤ◌, ◌≤ℤ◌, ◌<ℤ◌, List, length, get_or, sym, ap, subst, ◌∙◌, arith}
+use Rattle.std.specs.Prelude.{Some, option_map, slice_get, All, int_lt}
+use Rattle.std.proofs.lemmas.Bool.{cases_lt}
+use Rattle.effect_api.specs.Fits.{IsHeld}
+use Rattle.std.proofs.lemmas.Int.{ints, clamps}
+use Rattle.rational_time.specs.Times.{held_of}
 use Rattle.std.proofs.lemmas.Option.{slice_get-map, slice_get-get_or, slice_get_within, get_or_from_slice_get}
 use Rattle.project_model.specs.Plain.{plain_layer, plain_comp, plain_of}
 use Rattle.project_model.specs.Nesting.{IsAcyclic, source_rank, stack_rank}
@@ -58,3 +61,31 @@ comp_here project i comp here = slice_get-map plain_comp project.comps i ∙ ap 
 -- the same composition
 pub same_found : (comps : List Comp) (i : ℕ) (one other : Comp) (k : ℕ) → slice_get comps i ≡ Some one → slice_get comps i ≡ Some other → k < length one.layers → k < length other.layers
 same_found comps i one other k e f h = let same : one ≡ other = cc in subst (λ (c : Comp). k < length c.layers) same h
+
+-- a held tick stays where it is
+pub held_twice : (base : ℕ) (t : ℤ) → held_of base (held_of base t) ≡ held_of base t
+held_twice base t = omega (arith, ints, clamps)
+
+-- so many frames of a composition that ends within 36,000 seconds
+frames_within : (n f ticks v s base : ℕ) → ticks * s ≡ v * base → n ≤ f → v * f ≤ 36000 * s → 1 ≤ s → n * ticks ≤ 36000 * base
+frames_within n f ticks v s base e few short some =
+    elim (cases_lt (36000 * base) (n * ticks)) [
+      | inl more ↦
+          let scaled : s * (36000 * base + 1) ≤ s * (n * ticks) = mul-le-mul_left s (omega (arith, more)) in
+          let same : n * (ticks * s) ≡ n * (v * base) = ap (λ (k : ℕ). n * k) e in
+          let fewer : (v * base) * n ≤ (v * base) * f = mul-le-mul_left (v * base) few in
+          let shorter : base * (v * f) ≤ base * (36000 * s) = mul-le-mul_left base short in
+          absurd (omega (arith, scaled, same, fewer, shorter, some))
+      | inr least ↦ least
+    ]
+
+-- each of its frames begins at a held tick
+pub frame_held : (n f s base : ℕ) (ticks v : ℤ) → (ticks *ℤ pos s) ≡ (v *ℤ pos base) → pos 1 ≤ℤ v → 1 ≤ base → n < f → int_lt (pos (36000 * s)) (v *ℤ pos f) ≡ false → 1 ≤ s → IsHeld base (pos n *ℤ ticks)
+frame_held n f s base (pos ticks) (pos v) e above some within short scaled =
+    let same : ticks * s ≡ v * base = omega (arith, ints, e) in
+    let bound : v * f ≤ 36000 * s = omega (arith, ints, short) in
+    let few : n ≤ f = omega (arith, within) in
+    let le = frames_within n f ticks v s base same few bound scaled in
+    omega (arith, ints, clamps, le)
+frame_held n f s base (negsuc ticks) v e above some within short scaled = absurd (omega (arith, ints, some_ticks (negsuc ticks) v s base e above some))
+frame_held n f s base ticks (negsuc v) e above some within short scaled = absurd (omega (arith, ints, above))

@@ -1,4 +1,7 @@
+pub mod Boxes
+pub mod CheckedOut
 pub mod Drawing
 pub mod Frames
 pub mod Placing
 pub mod Rooted
+pub mod Wanted

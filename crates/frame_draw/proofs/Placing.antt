@@ -1,6 +1,6 @@
 -- What is put on the stack for a layer.
 use Rattle.std.proofs.Common.{◌≡◌, ℕ, zero, suc, ◌+◌, ◌-◌, ◌<◌, ◌≤◌, ℤ, pos, negsuc, ◌≤ℤ◌, Fits, w32, Bool, true, false, List, [], ◌∷◌, length, map, drop, get_or, refl, sym, ap, subst, ◌∙◌, arith}
-use Rattle.std.specs.Prelude.{Result, Ok, Err, IfOk, Option, Some, None, option_map, not, ◌&&◌, slice_get, unsigned_abs, if◌then◌else◌, All, int_le, int_lt}
+use Rattle.std.specs.Prelude.{Result, Ok, Err, IfOk, Option, Some, None, option_map, not, ◌&&◌, slice_get, unsigned_abs, if◌then◌else◌, All, int_le, int_lt, take}
 use Rattle.std.specs.Int.RustNames.{FitsSigned}
 use lib.Dec.{T}
 use lib.Signed.{non_neg}
@@ -28,11 +28,14 @@ use Rattle.param_stream.specs.Curve.{Curve, IsBetween, value_at}
 use Rattle.param_stream.proofs.Values.{value_within}
 use Rattle.project_model.specs.Bounds.{full_opacity, least_position, greatest_position}
 use Rattle.project_model.specs.Sound.{IsMadeWith, IsMadeLayer}
-use Rattle.project_model.specs.Plain.{plain_layer, plain_comp}
+use Rattle.project_model.specs.Plain.{plain_fx, plain_layer, plain_comp}
+use Rattle.project_model.specs.declared.plain.PlainFx.{PlainFx}
 use Rattle.project_model.specs.declared.plain.PlainLayer.{PlainLayer}
 use Rattle.project_model.specs.declared.plain.PlainComp.{PlainComp}
 use Rattle.project_model.specs.declared.layer.Layer.{Layer}
-use Rattle.scene_meaning.specs.Shown.{PlainScene, Sources, base_in, most_in, is_seen, plane_in, seen_plane, source_plane, placed_of, serves_as_matte, placed_layers, end_of_comp, comp_shown, comp_plane, shown}
+use Rattle.scene_meaning.specs.Shown.{PlainScene, Sources, base_in, most_in, is_seen, plane_in, seen_plane, plane_behind, placed_of, serves_as_matte, placed_layers, end_of_comp, comp_shown, comp_plane, shown}
+use Rattle.frame_draw.specs.Boxes.{IsBoxed}
+use Rattle.frame_draw.proofs.Boxes.{frame_boxed}
 use Rattle.frame_draw.specs.Layers.{IsOfMatte, IsOfLayer, drawn_from, plane_at, brought}
 
 -- a picture that has one colour over its whole frame is that solid
@@ -132,7 +135,7 @@ shown_plane most base t layer world x y o made xv yv ov =
 
 -- ---- copies
 
-outside : (p : Picture) (x y : ℤ) → has p.part x y ≡ false → at p x y ≡ clear
+pub outside : (p : Picture) (x y : ℤ) → has p.part x y ≡ false → at p x y ≡ clear
 outside p x y e = ap (λ (b : Bool). if b then get_or p.pixels (place_of p.part x y) clear else clear) e
 
 copy_is : (p q : Picture) → q.extent ≡ p.extent → q.part ≡ p.part → AgreesOn p.part p q → plane_of q ≡ plane_of p
@@ -217,15 +220,21 @@ same_layer : (p p' : PlacedPlane) (o o' : Option PlacedPlane) (m : Mode) (k : Ma
     → (let l : PlacedLayer = record { layer = p; mode = m; matte = k; over = o } in l) ≡ record { layer = p'; mode = m; matte = k; over = o' }
 same_layer p p' o o' m k a b = cc
 
+-- all of a list
+take_map : {A B : Type 0} (f : A → B) (xs : List A) → take (length xs) (map f xs) ≡ map f xs
+take_map f [] = refl
+take_map f (x ∷ xs) = ap (λ l. f x ∷ l) (take_map f xs)
+
 -- a layer's picture where its streams put it
-pub placed_in : {most : ℕ} (sources : Sources) (base : ℕ) (t : ℤ) (layer : Layer) (shown : Shown most) (plane : Plane) → base ≡ sources.base → plane_placed shown ≡ plane_at base t (plain_layer layer) plane → plane ≡ source_plane sources (plain_layer layer) t
-    → plane_placed shown ≡ plane_in sources t (plain_layer layer)
-placed_in {most} sources base t layer shown plane same is drawn =
+pub placed_in : {most : ℕ} (sources : Sources) (base : ℕ) (comp : PlainComp) (t : ℤ) (layer : Layer) (shown : Shown most) (plane : Plane) → base ≡ sources.base → plane_placed shown ≡ plane_at base t (plain_layer layer) plane
+    → plane ≡ plane_behind sources comp (plain_layer layer) (take (length layer.effects) (plain_layer layer).effects) t
+    → plane_placed shown ≡ plane_in sources comp t (plain_layer layer)
+placed_in {most} sources base comp t layer shown plane same is drawn =
     is
     ∙ ap (λ (n : ℕ). plane_at n t (plain_layer layer) plane) same
-    ∙ ap (plane_at sources.base t (plain_layer layer)) drawn
+    ∙ ap (plane_at sources.base t (plain_layer layer)) (drawn ∙ ap (λ (effects : List PlainFx). plane_behind sources comp (plain_layer layer) effects t) (take_map plain_fx layer.effects))
 
-pub layer_is : {most : ℕ} (sources : Sources) (t : ℤ) (comp : PlainComp) (i : ℕ) (layer : Layer) (shown : Shown most) (over : Option (Shown most)) → IsShown shown → plane_placed shown ≡ plane_in sources t (plain_layer layer)
+pub layer_is : {most : ℕ} (sources : Sources) (t : ℤ) (comp : PlainComp) (i : ℕ) (layer : Layer) (shown : Shown most) (over : Option (Shown most)) → IsShown shown → plane_placed shown ≡ plane_in sources comp t (plain_layer layer)
     → IsOfMatte sources t comp i (plain_layer layer) over → IsOfLayer {most = most} sources t comp i (plain_layer layer) (record { layer = shown; mode = layer.mode; matte = layer.matte; over = over })
 layer_is {most} sources t comp i layer shown over fits is matte = record {
   fits = record { layer = fits; over = matte.fits };
@@ -267,24 +276,24 @@ unseen_matte sources base t comp i layer above seen some found same is e = recor
   fits = tt;
   same =
       sym (ap (λ (o : Option PlainLayer). if has_matte layer then seen_plane sources (plain_comp comp) t o else None) (above_here comp i above some found)
-      ∙ ap (λ (b : Bool). if has_matte layer then (if b then Some (plane_in sources t (plain_layer above)) else None) else None) (seen_in sources base (plain_comp comp) t (plain_layer above) seen false same is e)
+      ∙ ap (λ (b : Bool). if has_matte layer then (if b then Some (plane_in sources (plain_comp comp) t (plain_layer above)) else None) else None) (seen_in sources base (plain_comp comp) t (plain_layer above) seen false same is e)
       ∙ by (has_matte layer));
 }
   where
-    by : (b : Bool) → (if b then (if false then Some (plane_in sources t (plain_layer above)) else None) else None) ≡ None
+    by : (b : Bool) → (if b then (if false then Some (plane_in sources (plain_comp comp) t (plain_layer above)) else None) else None) ≡ None
     by true = refl
     by false = refl
 
 pub seen_matte : {most : ℕ} (sources : Sources) (base : ℕ) (t : ℤ) (comp : Comp) (i : ℕ) (layer : PlainLayer) (above : Layer) (seen has : Bool) (shown : Shown most) → 1 ≤ i → slice_get comp.layers (i - 1) ≡ Some above → base ≡ sources.base
-    → seen ≡ is_seen base (plain_comp comp) t (plain_layer above) → seen ≡ true → has ≡ has_matte layer → has ≡ true → IsShown shown → plane_placed shown ≡ plane_in sources t (plain_layer above)
+    → seen ≡ is_seen base (plain_comp comp) t (plain_layer above) → seen ≡ true → has ≡ has_matte layer → has ≡ true → IsShown shown → plane_placed shown ≡ plane_in sources (plain_comp comp) t (plain_layer above)
     → IsOfMatte {most = most} sources t (plain_comp comp) i layer (Some shown)
 seen_matte {most} sources base t comp i layer above seen has shown some found same is e is' e' fits drawn = record {
   fits = fits;
   same =
       ap Some drawn
       ∙ sym (ap (λ (o : Option PlainLayer). if has_matte layer then seen_plane sources (plain_comp comp) t o else None) (above_here comp i above some found)
-      ∙ ap (λ (b : Bool). if has_matte layer then (if b then Some (plane_in sources t (plain_layer above)) else None) else None) (seen_in sources base (plain_comp comp) t (plain_layer above) seen true same is e)
-      ∙ ap (λ (b : Bool). if b then Some (plane_in sources t (plain_layer above)) else None) (sym is' ∙ e'));
+      ∙ ap (λ (b : Bool). if has_matte layer then (if b then Some (plane_in sources (plain_comp comp) t (plain_layer above)) else None) else None) (seen_in sources base (plain_comp comp) t (plain_layer above) seen true same is e)
+      ∙ ap (λ (b : Bool). if b then Some (plane_in sources (plain_comp comp) t (plain_layer above)) else None) (sym is' ∙ e'));
 }
 
 -- there is one at each place within
@@ -365,3 +374,8 @@ in_time scene index base most comp t test world acyclic found same depth is e ex
     by x y false h =
         outside world x y (ap (λ (r : Rect). has r x y) part ∙ h)
         ∙ sym (ap (λ (b : Bool). if b then stack_at (most_in scene) (placed_layers (drawn_from scene) comp t 0 comp.layers) x y else clear) h)
+
+-- a world over the frame of a picture is no larger than a picture may be
+pub boxed_ok : {E : Type 0} (made : Result Picture E) (w h : ℕ) (frame : Rect) → frame ≡ frame_rect w h → IfOk made (λ world. world.extent ≡ frame) → w ≤ 4096 → h ≤ 4096 → IfOk made (λ world. IsBoxed 0 world.extent)
+boxed_ok (Ok world) w h frame is extent wide high = subst (IsBoxed 0) (sym (extent ∙ is)) (frame_boxed w h wide high)
+boxed_ok (Err e) w h frame is extent wide high = tt

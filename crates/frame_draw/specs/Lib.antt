@@ -1,3 +1,5 @@
+pub mod Boxes
 pub mod Drawn
 pub mod Kept
 pub mod Layers
+pub mod Uses

@@ -1,13 +1,13 @@
 //! How often a frame uses what its compositions show.
 ghost use Rattle.std.specs.Prelude.{◌<◌, length};
-ghost use Rattle.frame_draw.specs.Layers.{IsLayerOf};
+ghost use Rattle.frame_draw.specs.Layers.{IsCompOf, IsLayerIn, IsLayerOf};
 
 use crate::layers::{
-    base_of, comp_at, has_matte, is_in_time, is_seen, serves_as_matte, since_start,
+    base_of, comp_at, has_matte, is_in_time, is_seen, layer_at, serves_as_matte, since_start,
 };
 use crate::planes::{Use, add_use};
 use host_io::Memory;
-use project_model::{Item, Layer};
+use project_model::{Comp, Item, Layer};
 use rational_time::Tick;
 use scene_meaning::Scene;
 
@@ -27,14 +27,38 @@ pub(crate) fn count_uses(
         return Ok(());
     }
     for at in 0..comp.layers.as_slice().len() {
-        let layer = &comp.layers.as_slice()[at];
+        let layer = layer_at(scene, index, at);
         if is_seen(base, comp, layer, tick) && !serves_as_matte(comp, at) {
-            count_source(scene, uses, layer, tick)?;
+            count_layer(scene, uses, index, comp, layer, tick)?;
             if at > 0 && has_matte(layer) {
-                let above = &comp.layers.as_slice()[at - 1];
+                let above = layer_at(scene, index, at - 1);
                 if is_seen(base, comp, above, tick) {
-                    count_source(scene, uses, above, tick)?;
+                    count_layer(scene, uses, index, comp, above, tick)?;
                 }
+            }
+        }
+    }
+    Ok(())
+}
+
+// Notes the use of a layer's source at a tick, and of the sources of the layers that its effects name.
+#[cycle(count)]
+fn count_layer(
+    scene: &Scene,
+    uses: &mut Vec<Use>,
+    of: u32,
+    comp: &Comp,
+    layer: &Layer,
+    tick: Tick,
+) -> Result<(), Memory>
+    requires layer { IsLayerIn scene.now.project of comp.now layer.now }
+{
+    count_source(scene, uses, layer, tick)?;
+    for fx in layer.effects.as_slice() {
+        for named in fx.layers.as_slice() {
+            let named = *named as usize;
+            if named < comp.layers.as_slice().len() {
+                count_source(scene, uses, layer_at(scene, of, named), tick)?;
             }
         }
     }

@@ -3,15 +3,18 @@ ghost use Rattle.std.specs.Prelude.{◌≡◌, ◌≤◌, ◌<◌, ◌<ℤ◌, I
 ghost use Rattle.geom_rect.specs.Rect as rect;
 ghost use Rattle.argb_pixel.specs.Depth.{IsDepth};
 ghost use Rattle.project_model.specs.Bounds.{greatest_base};
-ghost use Rattle.project_model.specs.Nesting.{IsAcyclic, source_rank, stack_rank};
+ghost use Rattle.project_model.specs.Nesting.{IsAcyclic};
 ghost use Rattle.project_model.specs.declared.comp.Comp.{Comp};
 ghost use Rattle.project_model.specs.Plain.{plain_layer, plain_comp, plain_of};
 ghost use Rattle.project_model.specs.Sound.{IsPictureSize, IsWritten, MayBeWritten, IsMadeLayer, IsSoundComp};
 ghost use Rattle.comp_stack.specs.Stack.{solid_plane};
 ghost use Rattle.comp_stack.specs.Layers.{IsShown, plane_of, placed_of};
+ghost use Rattle.scene_meaning.specs.Scene.{EndsInTime};
 ghost use Rattle.scene_meaning.specs.Shown as meaning;
 ghost use Rattle.project_model.specs.Rules as rules;
-ghost use Rattle.frame_draw.specs.Layers.{IsCompOf, IsLayerOf, plane_at};
+ghost use Rattle.effect_api.specs.Fits.{IsHeld};
+ghost use Rattle.frame_draw.specs.Boxes.{IsBoxed};
+ghost use Rattle.frame_draw.specs.Layers.{IsCompOf, IsLayerOf, IsLayerIn, plane_at};
 
 use argb_pixel::Pixel;
 use argb_world::World;
@@ -40,10 +43,12 @@ pub(crate) fn frame_rect(width: u32, height: u32) -> Rect
 
 /// The ticks of a second in a scene.
 pub(crate) fn base_of(scene: &Scene) -> TimeBase
+    ensures base { result ≡ scene.now.project.base }
     ensures ticks { result.ticks ≡ meaning.base_in (plain_of scene.now.project) }
     ensures some { 1 ≤ result.ticks }
     ensures bound { result.ticks ≤ greatest_base }
     ensures nesting { IsAcyclic (plain_of scene.now.project) }
+    ensures comps { All (IsCompOf scene.now.project) scene.now.project.comps }
 {
     scene.project().base
 }
@@ -53,6 +58,7 @@ pub(crate) fn comp_at(scene: &Scene, index: u32) -> &Comp
     requires { index < length scene.now.project.comps }
     ensures here { slice_get scene.now.project.comps index ≡ Some result.now }
     ensures sound { IsCompOf scene.now.project result.now }
+    ensures ends { EndsInTime result.now }
     ensures nesting { IsAcyclic (plain_of scene.now.project) }
 {
     &scene.project().comps.as_slice()[index as usize]
@@ -64,7 +70,7 @@ pub(crate) fn layer_at(scene: &Scene, of: u32, index: usize) -> &Layer
     requires layer { (comp : Comp) → slice_get scene.now.project.comps of ≡ Some comp → index < length comp.layers }
     ensures here { (comp : Comp) → slice_get scene.now.project.comps of ≡ Some comp → slice_get comp.layers index ≡ Some result.now }
     ensures sound { IsLayerOf scene.now.project result.now }
-    ensures below { source_rank (stack_rank (plain_of scene.now.project)) result.now.source < stack_rank (plain_of scene.now.project) of }
+    ensures inside { (comp : Comp) → slice_get scene.now.project.comps of ≡ Some comp → IsLayerIn scene.now.project of comp result.now }
 {
     let comp = comp_at(scene, of);
     &comp.layers.as_slice()[index]
@@ -129,7 +135,8 @@ pub(crate) fn serves_as_matte(comp: &Comp, index: usize) -> bool
 /// The tick since a layer's own time began.
 pub(crate) fn since_start(base: TimeBase, layer: &Layer, tick: Tick) -> Tick
     requires { IsWritten base.ticks layer.now.start }
-    ensures { result.0 ≡ meaning.since base.ticks layer.now.start tick.0 }
+    ensures tick { result.0 ≡ meaning.since base.ticks layer.now.start tick.0 }
+    ensures held { IsHeld base.ticks result.0 }
 {
     held(
         base,
@@ -168,7 +175,8 @@ pub(crate) fn solid_world<const MAX: u32>(
 ) -> Result<World<MAX>, Memory>
     requires depth { IsDepth MAX }
     requires size { IsPictureSize width height }
-    ensures { IfOk result (λ world. plane_of world ≡ solid_plane width height colour.entry) }
+    ensures plane { IfOk result (λ world. plane_of world ≡ solid_plane width height colour.entry) }
+    ensures boxed { IfOk result (λ world. IsBoxed 0 world.extent) }
 {
     World::solid(alloc, frame_rect(width, height), colour)
 }
