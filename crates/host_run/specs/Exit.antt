@@ -3,15 +3,16 @@ use Rattle.std.specs.Prelude.{◌≡◌, ℕ, Option, Err}
 use Rattle.std.specs.Io.KnownBytes.{Keeps}
 use Rattle.host_io.specs.Status.{number_of}
 use Rattle.host_io.specs.declared.status.Status.{Status}
+use Rattle.host_run.specs.Effects.{Effects}
 use Rattle.host_run.specs.Run.{Seen, SeenStore, WorksWell, IsNoted, HasRun, calls_of}
 use Rattle.host_run.specs.declared.notes.Ending.{Ending}
 use Rattle.host_run.specs.declared.settings.Settings.{Settings}
 
 -- it is the number of the status of a run with these settings, none where the words are refused
-pub record HasExited (asked : Option Settings) (code : ℕ) (source : Seen) (store : SeenStore) (sink notes : Seen) : Type 0 where
+pub record HasExited (effects : Effects) (asked : Option Settings) (code : ℕ) (source : Seen) (store : SeenStore) (sink notes : Seen) : Type 0 where
   pub status : Status
   pub code_is : code ≡ number_of status
-  pub run : HasRun asked status source store sink notes
+  pub run : HasRun effects asked status source store sink notes
 
 -- nothing was done to the object
 pub record IsUntouched (seen : Seen) : Type 0 where

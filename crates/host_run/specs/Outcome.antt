@@ -5,7 +5,7 @@ use Rattle.project_json.specs.declared.error.ProjectError.{ProjectError}
 use Rattle.project_json.specs.declared.error.ProjectError.TheVariants as project
 use Rattle.project_json.specs.Reading.{project_of}
 use Rattle.frame_file.specs.Clip.{Pictures}
-use Rattle.host_run.specs.Effects.{known_effects}
+use Rattle.host_run.specs.Effects.{Effects, scene_with}
 use Rattle.host_run.specs.declared.input.TheConstants.{LONGEST_TEXT}
 use Rattle.scene_meaning.specs.Shown.{PlainScene}
 use Rattle.scene_meaning.specs.Output.{file, frame_count}
@@ -36,23 +36,23 @@ outcome_of_span scene from to =
     then accepted scene from to
     else span_refused from to (frame_count scene.project)
 
-abbrev pub outcome_of_clips : Settings → PlainProject → Result (List Pictures) Refusal → Outcome
-outcome_of_clips settings project (Err refusal) = clip_refused refusal
-outcome_of_clips settings project (Ok clips) =
-    outcome_of_span record { project = project; clips = clips } settings.from (last_asked settings project)
+abbrev pub outcome_of_clips : Effects → Settings → PlainProject → Result (List Pictures) Refusal → Outcome
+outcome_of_clips effects settings project (Err refusal) = clip_refused refusal
+outcome_of_clips effects settings project (Ok clips) =
+    outcome_of_span (scene_with effects project clips) settings.from (last_asked settings project)
 
-abbrev pub outcome_of_reading : Settings → Found → Result PlainProject ProjectError → Outcome
-outcome_of_reading settings found (Err error) = project_refused error
-outcome_of_reading settings found (Ok project) = outcome_of_clips settings project (clips_from found 0 project.clips)
+abbrev pub outcome_of_reading : Effects → Settings → Found → Result PlainProject ProjectError → Outcome
+outcome_of_reading effects settings found (Err error) = project_refused error
+outcome_of_reading effects settings found (Ok project) = outcome_of_clips effects settings project (clips_from found 0 project.clips)
 
-abbrev pub outcome_of_text : Settings → List ℕ → Found → Outcome
-outcome_of_text settings bytes found =
-    if nat_lt LONGEST_TEXT (length bytes) then project_too_long else outcome_of_reading settings found (project_of known_effects bytes)
+abbrev pub outcome_of_text : Effects → Settings → List ℕ → Found → Outcome
+outcome_of_text effects settings bytes found =
+    if nat_lt LONGEST_TEXT (length bytes) then project_too_long else outcome_of_reading effects settings found (project_of effects.set.schemas bytes)
 
--- of the settings, none where the words are refused, the bytes, and what was found of the clips
-abbrev pub outcome : Option Settings → List ℕ → Found → Outcome
-outcome None bytes found = words_refused
-outcome (Some settings) bytes found = outcome_of_text settings bytes found
+-- with these effects, of the settings, none where the words are refused, the bytes, and what was found of the clips
+abbrev pub outcome : Effects → Option Settings → List ℕ → Found → Outcome
+outcome effects None bytes found = words_refused
+outcome effects (Some settings) bytes found = outcome_of_text effects settings bytes found
 
 -- how a run ends where no fault and no want of memory comes before
 abbrev pub end_of : Outcome → Result (Unit {0}) Ending

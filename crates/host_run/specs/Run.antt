@@ -7,7 +7,7 @@ use Rattle.host_io.specs.declared.status.Status.TheVariants as status
 use Rattle.host_io.specs.Clips.{ClipMap}
 use Rattle.project_model.specs.declared.plain.PlainProject.{PlainProject}
 use Rattle.project_json.specs.Reading.{project_of}
-use Rattle.host_run.specs.Effects.{known_effects}
+use Rattle.host_run.specs.Effects.{Effects}
 use Rattle.host_run.specs.Ending.{status_of_end, note_of_end}
 use Rattle.host_run.specs.Found.{Found, IsFoundIn, IsReached}
 use Rattle.host_run.specs.Outcome.{Outcome, outcome, end_of, output, IsAccepted, is_read_on}
@@ -67,27 +67,27 @@ pub record IsQuiet (seen : Seen) : Type 0 where
 
 -- The words are accepted, the bytes are read as a project that declares a clip of this name, and none of its clips before that one
 -- is missing or refused.
-pub record IsAsked (asked : Option Settings) (bytes : List ℕ) (found : Found) (name : List ℕ) : Type 0 where
+pub record IsAsked (effects : Effects) (asked : Option Settings) (bytes : List ℕ) (found : Found) (name : List ℕ) : Type 0 where
   pub settings : Settings
   pub words : asked ≡ Some settings
   pub short : length bytes ≤ LONGEST_TEXT
   pub project : PlainProject
-  pub read : project_of known_effects bytes ≡ Ok project
+  pub read : project_of effects.set.schemas bytes ≡ Ok project
   pub reached : IsReached found project.clips name
 
 -- The cause of the end: what the words, the bytes and the clips come to, or a fault that was counted, or want of memory. A source
 -- is not read where the words are refused, nor past a text that is too long. A store's fault stands at a clip before which none is
 -- missing or refused.
-abbrev pub IsCaused : Option Settings → List ℕ → Found → Result (Unit {0}) Ending → Seen → SeenStore → Seen → Type 0
-IsCaused asked bytes found (Err ReadFault) source store sink =
-    IsTrue (is_read_on (outcome asked bytes found)) × Fails source × WorksWell (calls_of store) × WorksWell sink
-IsCaused asked bytes found (Err (ClipFault name)) source store sink =
-    IsAsked asked bytes found name × WorksWell source × Fails (calls_of store) × WorksWell sink
-IsCaused asked bytes found (Err WriteFault) source store sink =
-    IsAccepted (outcome asked bytes found) × WorksWell source × WorksWell (calls_of store) × Fails sink
-IsCaused asked bytes found (Err Memory) source store sink = WorksWell source × WorksWell (calls_of store) × WorksWell sink
-IsCaused asked bytes found end source store sink =
-    (end ≡ end_of (outcome asked bytes found)) × WorksWell source × WorksWell (calls_of store) × WorksWell sink
+abbrev pub IsCaused : Effects → Option Settings → List ℕ → Found → Result (Unit {0}) Ending → Seen → SeenStore → Seen → Type 0
+IsCaused effects asked bytes found (Err ReadFault) source store sink =
+    IsTrue (is_read_on (outcome effects asked bytes found)) × Fails source × WorksWell (calls_of store) × WorksWell sink
+IsCaused effects asked bytes found (Err (ClipFault name)) source store sink =
+    IsAsked effects asked bytes found name × WorksWell source × Fails (calls_of store) × WorksWell sink
+IsCaused effects asked bytes found (Err WriteFault) source store sink =
+    IsAccepted (outcome effects asked bytes found) × WorksWell source × WorksWell (calls_of store) × Fails sink
+IsCaused effects asked bytes found (Err Memory) source store sink = WorksWell source × WorksWell (calls_of store) × WorksWell sink
+IsCaused effects asked bytes found end source store sink =
+    (end ≡ end_of (outcome effects asked bytes found)) × WorksWell source × WorksWell (calls_of store) × WorksWell sink
 
 -- what is left of the source: nothing, but where it was not read to its end
 abbrev pub Leaves : Result (Unit {0}) Ending → Seen → Type 0
@@ -116,20 +116,20 @@ pub record IsNoted (end : Result (Unit {0}) Ending) (s : Status) (notes : Seen) 
   pub front : AppendsFront notes.before notes.now (note_of_end end)
   pub whole : IsQuiet notes → (s ≡ status.Memory) ⊎ Appends notes.before notes.now (note_of_end end)
 
--- With these settings, none where the words are refused: the bytes that the source handed out, what was found of the clips, which
+-- With these effects and settings, none where the words are refused: the bytes that the source handed out, what was found of the clips, which
 -- are what they were, the cause of the end, and what follows from them.
-pub record HasEnded (asked : Option Settings) (end : Result (Unit {0}) Ending) (source : Seen) (store : SeenStore) (sink : Seen) : Type 0 where
+pub record HasEnded (effects : Effects) (asked : Option Settings) (end : Result (Unit {0}) Ending) (source : Seen) (store : SeenStore) (sink : Seen) : Type 0 where
   pub bytes : List ℕ
   pub taken : Consumes source.before source.now bytes
   pub found : Found
   pub handed : IsFoundIn store.clips found
   pub kept : store.clips_now ≡ store.clips
-  pub caused : IsCaused asked bytes found end source store sink
+  pub caused : IsCaused effects asked bytes found end source store sink
   pub left : Leaves end source
-  pub written : Writes (outcome asked bytes found) end source sink
+  pub written : Writes (outcome effects asked bytes found) end source sink
 
 -- a run ended so, and said it
-pub record HasRun (asked : Option Settings) (s : Status) (source : Seen) (store : SeenStore) (sink notes : Seen) : Type 0 where
+pub record HasRun (effects : Effects) (asked : Option Settings) (s : Status) (source : Seen) (store : SeenStore) (sink notes : Seen) : Type 0 where
   pub end : Result (Unit {0}) Ending
-  pub ended : HasEnded asked end source store sink
+  pub ended : HasEnded effects asked end source store sink
   pub noted : IsNoted end s notes

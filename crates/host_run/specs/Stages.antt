@@ -5,10 +5,11 @@ use Rattle.project_model.specs.declared.plain.PlainProject.{PlainProject}
 use Rattle.project_model.specs.declared.project.Project.{Project}
 use Rattle.project_model.specs.Plain.{plain_of}
 use Rattle.project_model.specs.Sound.{IsSound}
+use Rattle.project_model.specs.Uses.{AreUses}
+use Rattle.project_model.specs.declared.effect.EffectSchema.{EffectSchema}
 use Rattle.project_json.specs.Reading.{project_of}
 use Rattle.project_json.specs.declared.error.ProjectError.TheVariants as project
 use Rattle.scene_meaning.specs.Output.{frame_count}
-use Rattle.host_run.specs.Effects.{known_effects}
 use Rattle.host_run.specs.Outcome.{accepted, span_refused, outcome_of_span, last_asked}
 use Rattle.scene_meaning.specs.Scene.{SceneParts}
 use Rattle.scene_meaning.specs.Shown.{PlainScene}
@@ -26,26 +27,26 @@ pub record IsWhole (bytes : List ℕ) (source : Seen) : Type 0 where
   pub works : WorksWell source
   pub bound : length bytes ≤ LONGEST_TEXT
 
--- what the bytes that were taken are read as, or why not all were taken
-abbrev pub Reads : Result Project Ending → List ℕ → Seen → Type 0
-Reads (Ok p) bytes source = IsWhole bytes source × (project_of known_effects bytes ≡ Ok (plain_of p)) × IsSound p
-Reads (Err ending.NotJson) bytes source = IsWhole bytes source × (project_of known_effects bytes ≡ Err project.NotJson)
-Reads (Err (ending.Rule number)) bytes source =
-    IsWhole bytes source × ((comp : Option ℕ) × (layer : Option ℕ) × (project_of known_effects bytes ≡ Err (project.Rule number comp layer)))
-Reads (Err ending.ReadFault) bytes source = Fails source × (length bytes ≤ LONGEST_TEXT)
-Reads (Err ending.ProjectTooLong) bytes source = WorksWell source × (LONGEST_TEXT < length bytes)
-Reads (Err ending.Memory) bytes source = WorksWell source
-Reads (Err ending.Words) bytes source = ⊥
-Reads (Err ending.WriteFault) bytes source = ⊥
-Reads (Err (ending.ClipMissing name)) bytes source = ⊥
-Reads (Err (ending.ClipRefused name why)) bytes source = ⊥
-Reads (Err (ending.ClipFault name)) bytes source = ⊥
-Reads (Err (ending.Span from to count)) bytes source = ⊥
+-- what the bytes that were taken are read as, with these schemas, or why not all were taken
+abbrev pub Reads : List EffectSchema → Result Project Ending → List ℕ → Seen → Type 0
+Reads schemas (Ok p) bytes source = IsWhole bytes source × (project_of schemas bytes ≡ Ok (plain_of p)) × IsSound p × AreUses schemas p
+Reads schemas (Err ending.NotJson) bytes source = IsWhole bytes source × (project_of schemas bytes ≡ Err project.NotJson)
+Reads schemas (Err (ending.Rule number)) bytes source =
+    IsWhole bytes source × ((comp : Option ℕ) × (layer : Option ℕ) × (project_of schemas bytes ≡ Err (project.Rule number comp layer)))
+Reads schemas (Err ending.ReadFault) bytes source = Fails source × (length bytes ≤ LONGEST_TEXT)
+Reads schemas (Err ending.ProjectTooLong) bytes source = WorksWell source × (LONGEST_TEXT < length bytes)
+Reads schemas (Err ending.Memory) bytes source = WorksWell source
+Reads schemas (Err ending.Words) bytes source = ⊥
+Reads schemas (Err ending.WriteFault) bytes source = ⊥
+Reads schemas (Err (ending.ClipMissing name)) bytes source = ⊥
+Reads schemas (Err (ending.ClipRefused name why)) bytes source = ⊥
+Reads schemas (Err (ending.ClipFault name)) bytes source = ⊥
+Reads schemas (Err (ending.Span from to count)) bytes source = ⊥
 
-pub record HasRead (result : Result Project Ending) (source : Seen) : Type 0 where
+pub record HasRead (schemas : List EffectSchema) (result : Result Project Ending) (source : Seen) : Type 0 where
   pub bytes : List ℕ
   pub taken : Consumes source.before source.now bytes
-  pub reads : Reads result bytes source
+  pub reads : Reads schemas result bytes source
 
 -- what the clips of the project come to, or why not all were asked for
 abbrev pub Loads : Project → Found → Result SceneParts Ending → Seen → Type 0

@@ -1,14 +1,18 @@
 ghost use Rattle.std.specs.Prelude.{◌≡◌, drop, map, string_bytes, IfOk, IfErr, IsOkAnd};
 ghost use Rattle.std.specs.Process.{exit_status};
+ghost use Rattle.scene_meaning.specs.Steady.{IsSteady};
 ghost use Rattle.host_run.specs.Ending.{ending_of_arguments};
 ghost use Rattle.host_run.specs.Exit.{HasExited, HasRefused};
 ghost use Rattle.host_run.specs.Headline.{IsRendered};
 ghost use Rattle.host_run.specs.Words.{words_of};
 ghost use Rattle.host_run.specs.Run.{seen_of, seen_store};
 
+use crate::effects::HasEffects;
 use crate::host::run;
 use crate::notes::{Ending, note};
+use effect_api::Draw;
 use host_io::{ClipStore, Sink, Source, Status};
+use scene_meaning::HasSet;
 use std::alloc::Global;
 use std::process::ExitCode;
 
@@ -22,21 +26,24 @@ pub enum ArgumentsError {
 
 /// Runs with the words behind the first argument, which is the program's name, and answers the code that the process ends with:
 /// the number of the status. Arguments that are not text are refused words.
-pub fn program<S: Source, C: ClipStore, K: Sink, N: Sink>(
+pub fn program<E: Draw<255> + Draw<32768>, S: Source, C: ClipStore, K: Sink, N: Sink>(
     alloc: Global,
     arguments: Result<Vec<String>, ArgumentsError>,
+    effects: &E,
     project: &mut S,
     clips: &mut C,
     out: &mut K,
     notes: &mut N,
 ) -> ExitCode
+    requires { IsSteady ⟦<E as HasSet>⟧.set }
+
     // With the code 0 the bytes written are the file of the span of the project that the bytes left were read as, with its clips.
-    ensures headline { exit_status result ≡ 0 → IsOkAnd arguments (λ a. IsRendered (words_of (map string_bytes (drop 1 a.items)))
+    ensures headline { exit_status result ≡ 0 → IsOkAnd arguments (λ a. IsRendered ⟦<E as HasEffects>⟧.effects (words_of (map string_bytes (drop 1 a.items)))
         (seen_of S.left S.faults project.old project.new) (seen_store C.clips C.faults clips.old clips.new)
         (seen_of K.written K.faults out.old out.new)) }
 
     // The code is the number of the status of a run with the words behind the first argument.
-    ensures ran { IfOk arguments (λ a. HasExited (words_of (map string_bytes (drop 1 a.items))) (exit_status result)
+    ensures ran { IfOk arguments (λ a. HasExited ⟦<E as HasEffects>⟧.effects (words_of (map string_bytes (drop 1 a.items))) (exit_status result)
         (seen_of S.left S.faults project.old project.new) (seen_store C.clips C.faults clips.old clips.new)
         (seen_of K.written K.faults out.old out.new) (seen_of N.written N.faults notes.old notes.new)) }
 
@@ -52,6 +59,7 @@ pub fn program<S: Source, C: ClipStore, K: Sink, N: Sink>(
         Ok(arguments) => run(
             alloc,
             &after_the_name(arguments),
+            effects,
             project,
             clips,
             out,

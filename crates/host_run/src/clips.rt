@@ -1,19 +1,20 @@
 //! The clips of a project, read from a store.
 ghost use Rattle.std.specs.Prelude.{◌≡◌, ◌<◌, length, None, IfOk};
+ghost use Rattle.std.specs.List.{All};
+ghost use Rattle.scene_meaning.specs.Scene.{EndsInTime};
+ghost use Rattle.project_model.specs.Effects.{AreSchemas};
 ghost use Rattle.project_model.specs.Checked.{breach_in};
 ghost use Rattle.project_model.specs.Nesting.{ranks_of};
 ghost use Rattle.project_model.specs.Plain.{plain_of};
 ghost use Rattle.project_model.specs.Sound.{IsSound};
-ghost use Rattle.host_run.specs.Effects.{known_effects};
 ghost use Rattle.host_run.specs.Ending.{IsOneOf, ending_of_clip, ending_of_loading, name_at};
 ghost use Rattle.host_run.specs.Run.{seen_store};
 ghost use Rattle.host_run.specs.Stages.{HasLoaded};
 
-use crate::effects::known_effects;
 use crate::notes::Ending;
 use frame_file::{ClipError, LoadError, load_clips};
 use host_io::{ClipStore, Memory};
-use project_model::{CheckError, ClipUse, Collection, Project, Ranks, Text, check};
+use project_model::{CheckError, ClipUse, Collection, EffectSchema, Project, Ranks, Text, check};
 use scene_meaning::Scene;
 use std::alloc::Global;
 
@@ -50,12 +51,13 @@ impl Ending {
     }
 }
 
-/// The ranks of a project that keeps the rules.
-fn ranks_of(alloc: Global, project: &Project) -> Result<Ranks, Memory>
-    requires { breach_in known_effects project.now ≡ None }
+/// The ranks of a project that keeps the rules, with these schemas.
+fn ranks_of(alloc: Global, project: &Project, schemas: &[EffectSchema]) -> Result<Ranks, Memory>
+    requires schemas { AreSchemas schemas.now }
+    requires passed { breach_in schemas.now project.now ≡ None }
     ensures { IfOk result (λ ranks. ranks ≡ ranks_of (plain_of project.now)) }
 {
-    match check(alloc, project, known_effects()) {
+    match check(alloc, project, schemas) {
         Ok(ranks) => Ok(ranks),
         Err(refusal) => match refusal {
             CheckError::Memory => Err(Memory),
@@ -64,14 +66,17 @@ fn ranks_of(alloc: Global, project: &Project) -> Result<Ranks, Memory>
     }
 }
 
-/// Reads the clips that a project declares, in order, and answers its scene.
+/// Reads the clips that a project declares, in order, and answers its scene. The project keeps the rules, with these schemas.
 pub(crate) fn read_clips<C: ClipStore>(
     alloc: Global,
     project: Project,
+    schemas: &[EffectSchema],
     clips: &mut C,
 ) -> Result<Scene, Ending>
     requires sound { IsSound project }
-    requires passed { breach_in known_effects project ≡ None }
+    requires schemas { AreSchemas schemas.now }
+    requires passed { breach_in schemas.now project ≡ None }
+    requires lengths { All EndsInTime project.comps }
     ensures loaded { HasLoaded project result (seen_store C.clips C.faults clips.old clips.new) }
     ensures kept { C.clips clips.new ≡ C.clips clips.old }
 {
@@ -79,7 +84,7 @@ pub(crate) fn read_clips<C: ClipStore>(
         Ok(loaded) => loaded,
         Err(error) => return Err(Ending::of_loading(project.clips, error)),
     };
-    let Ok(ranks) = ranks_of(alloc, &project) else {
+    let Ok(ranks) = ranks_of(alloc, &project, schemas) else {
         return Err(Ending::Memory);
     };
     match Scene::new(project, loaded, ranks) {

@@ -1,13 +1,18 @@
-ghost use Rattle.std.specs.Prelude.{◌≡◌};
-ghost use Rattle.project_model.specs.Effects.{AreSchemas};
-ghost use Rattle.host_run.specs.Effects.{known_effects};
+//! The effects that a program has.
+ghost use Rattle.host_run.specs.Effects.{Effects};
 
-use project_model::EffectSchema;
+use effect_api::Draw;
+use scene_meaning::{HasSet, Means};
 
-/// The effects that a project may name. There are none as long as effects are not drawn, so that any name of one is refused.
-pub(crate) fn known_effects<'a>() -> &'a [EffectSchema]
-    ensures none { result.now ≡ known_effects }
-    ensures schemas { AreSchemas result.now }
-{
-    &[]
+/// An effect set that draws at both depths, as one value for contracts to speak of.
+pub trait HasEffects {
+    ghost effects: { Effects };
+}
+
+impl<E: Draw<255> + Draw<32768>> HasEffects for E {
+    ghost effects = { record {
+      set = ⟦<E as HasSet>⟧.set;
+      narrow = ⟦<E as Means<255>>⟧.drawing;
+      wide = ⟦<E as Means<32768>>⟧.drawing;
+    } };
 }

@@ -1,22 +1,25 @@
 ghost use Rattle.std.specs.Prelude.{◌≡◌, map, string_bytes, IfOk};
 ghost use Rattle.project_model.specs.Plain.{plain_of};
-ghost use Rattle.scene_meaning.specs.Scene.{plain_scene};
+ghost use Rattle.project_model.specs.Effects.{AreSchemas};
+ghost use Rattle.scene_meaning.specs.Steady.{IsSteady};
+ghost use Rattle.host_run.specs.Effects.{Effects, scene_of};
 ghost use Rattle.host_run.specs.Headline.{IsRendered, IsAnswered};
 ghost use Rattle.host_run.specs.Run.{HasEnded, HasRun, seen_of, seen_store};
 ghost use Rattle.host_run.specs.Stages.{HasRead, HasSpan, InRoot};
 ghost use Rattle.host_run.specs.Words.{words_of};
 
 use crate::clips::read_clips;
-use crate::effects::known_effects;
+use crate::effects::HasEffects;
 use crate::input::{ReadError, read_to_end};
 use crate::notes::{Ending, note};
 use crate::settings::Settings;
 use crate::span::{Span, root_of, write_span};
 use crate::words::{WordsError, read_words};
+use effect_api::Draw;
 use host_io::{ClipStore, Sink, SinkError, Source, Status};
 use project_json::{ProjectError, read_project};
-use project_model::Project;
-use scene_meaning::Scene;
+use project_model::{EffectSchema, Project};
+use scene_meaning::{HasSet, Scene};
 use std::alloc::Global;
 
 impl Ending {
@@ -62,14 +65,19 @@ impl Ending {
 }
 
 /// Reads the project. Its text is let go.
-fn read_input<S: Source>(alloc: Global, source: &mut S) -> Result<Project, Ending>
-    ensures { HasRead result (seen_of S.left S.faults source.old source.new) }
+fn read_input<S: Source>(
+    alloc: Global,
+    source: &mut S,
+    schemas: &[EffectSchema],
+) -> Result<Project, Ending>
+    requires { AreSchemas schemas.now }
+    ensures { HasRead schemas.now result (seen_of S.left S.faults source.old source.new) }
 {
     let bytes = match read_to_end(alloc, source) {
         Ok(bytes) => bytes,
         Err(error) => return Err(Ending::of_reading(error)),
     };
-    match read_project(alloc, &bytes, known_effects()) {
+    match read_project(alloc, &bytes, schemas) {
         Ok(project) => Ok(project),
         Err(error) => Err(Ending::of_project(error)),
     }
@@ -77,7 +85,7 @@ fn read_input<S: Source>(alloc: Global, source: &mut S) -> Result<Project, Endin
 
 /// The span that is asked for, where it lies in the root.
 fn span_of(settings: &Settings, scene: &Scene) -> Result<Span, Ending>
-    ensures asked { HasSpan settings.now (plain_scene scene.now) result }
+    ensures asked { (effects : Effects) → HasSpan settings.now (scene_of effects scene.now) result }
     ensures inside { IfOk result (InRoot (plain_of scene.now.project)) }
 {
     let count = root_of(scene).frames;
@@ -91,14 +99,16 @@ fn span_of(settings: &Settings, scene: &Scene) -> Result<Span, Ending>
 }
 
 /// Renders a project, or says why not.
-fn render<S: Source, C: ClipStore, K: Sink>(
+fn render<E: Draw<255> + Draw<32768>, S: Source, C: ClipStore, K: Sink>(
     alloc: Global,
     words: &[String],
+    effects: &E,
     source: &mut S,
     clips: &mut C,
     out: &mut K,
 ) -> Result<(), Ending>
-    ensures { HasEnded (words_of (map string_bytes words.now)) result
+    requires { IsSteady ⟦<E as HasSet>⟧.set }
+    ensures { HasEnded ⟦<E as HasEffects>⟧.effects (words_of (map string_bytes words.now)) result
         (seen_of S.left S.faults source.old source.new) (seen_store C.clips C.faults clips.old clips.new)
         (seen_of K.written K.faults out.old out.new) }
 {
@@ -106,11 +116,15 @@ fn render<S: Source, C: ClipStore, K: Sink>(
         Ok(settings) => settings,
         Err(error) => return Err(Ending::of_words(error)),
     };
-    let project = match read_input(alloc, source) {
+    let Ok(list) = effects.schemas(alloc) else {
+        return Err(Ending::Memory);
+    };
+    let schemas = list.as_slice();
+    let project = match read_input(alloc, source, schemas) {
         Ok(project) => project,
         Err(ending) => return Err(ending),
     };
-    let scene = match read_clips(alloc, project, clips) {
+    let scene = match read_clips(alloc, project, schemas, clips) {
         Ok(scene) => scene,
         Err(ending) => return Err(ending),
     };
@@ -118,54 +132,58 @@ fn render<S: Source, C: ClipStore, K: Sink>(
         Ok(span) => span,
         Err(ending) => return Err(ending),
     };
-    match write_span(alloc, &scene, span, out) {
+    match write_span(alloc, &scene, effects, span, out) {
         Ok(()) => Ok(()),
         Err(error) => Err(Ending::of_writing(error)),
     }
 }
 
-/// Renders a project: reads its JSON from `project` to the end and the clips that it declares from `clips`, in order, draws the
+/// Renders a project with the effects of a set, each of which draws from planes at its own tick and from no analysis: reads its JSON
+/// from `project` to the end and the clips that it declares from `clips`, in order, draws the
 /// frames of its root composition that the words ask for and writes them to `out` as an AFR file. Where it cannot, it writes a
 /// line to `notes`.
 ///
 /// - `Words`: the words are no settings (see [`crate::read_words`]); nothing is read.
 /// - `ReadFault`: the source failed.
 /// - `ProjectTooLong`: there are more than 67,108,864 bytes, and no read of them failed.
-/// - `Project`: the bytes are not JSON, or not a project (see [`project_json::read_project`]). Effects are not drawn yet, so the effect
-///   set is empty: a layer with an effect breaks rule 11, where it breaks no rule with a lesser number.
+/// - `Project`: the bytes are not JSON, or not a project (see [`project_json::read_project`]). It may name the effects of
+///   the set.
 /// - `Clip`: a clip is missing or its bytes are refused (see [`frame_file::load_clips`]), and no call of the store failed before.
 /// - `ClipFault`: the store failed at a clip; none before it is missing or refused.
 /// - `Span`: the first frame that is asked for is behind the last, or the last is not in the root.
 /// - `WriteFault`: the sink failed; a prefix of the file is written.
 /// - `Memory`: memory ran out; a prefix of the file may be written.
-pub fn run<S: Source, C: ClipStore, K: Sink, N: Sink>(
+pub fn run<E: Draw<255> + Draw<32768>, S: Source, C: ClipStore, K: Sink, N: Sink>(
     alloc: Global,
     words: &[String],
+    effects: &E,
     project: &mut S,
     clips: &mut C,
     out: &mut K,
     notes: &mut N,
 ) -> Status
+    requires { IsSteady ⟦<E as HasSet>⟧.set }
+
     // On Ok the bytes written are the file of the span of the project that the bytes left were read as, with its clips.
-    ensures headline { result ≡ Status.Ok → IsRendered (words_of (map string_bytes words.now))
+    ensures headline { result ≡ Status.Ok → IsRendered ⟦<E as HasEffects>⟧.effects (words_of (map string_bytes words.now))
         (seen_of S.left S.faults project.old project.new) (seen_store C.clips C.faults clips.old clips.new)
         (seen_of K.written K.faults out.old out.new) }
 
     // Where the source tells its bytes and no read and no call of the store failed, the outcome of all of them decides; an accepted
     // one is written, where no write failed, but for want of memory.
-    ensures answered { IsAnswered (words_of (map string_bytes words.now)) result
+    ensures answered { IsAnswered ⟦<E as HasEffects>⟧.effects (words_of (map string_bytes words.now)) result
         (seen_of S.left S.faults project.old project.new) (seen_store C.clips C.faults clips.old clips.new)
         (seen_of K.written K.faults out.old out.new) }
 
     // How it ended, by which cause, what is left and what was written, and the note that says so.
-    ensures ran { HasRun (words_of (map string_bytes words.now)) result
+    ensures ran { HasRun ⟦<E as HasEffects>⟧.effects (words_of (map string_bytes words.now)) result
         (seen_of S.left S.faults project.old project.new) (seen_store C.clips C.faults clips.old clips.new)
         (seen_of K.written K.faults out.old out.new) (seen_of N.written N.faults notes.old notes.new) }
 
     // The store holds what it held.
     ensures kept { C.clips clips.new ≡ C.clips clips.old }
 {
-    match render(alloc, words, project, clips, out) {
+    match render(alloc, words, effects, project, clips, out) {
         Ok(()) => Status::Ok,
         Err(ending) => note(alloc, ending, notes),
     }

@@ -14,6 +14,7 @@ mod span;
 mod words;
 
 pub use arguments::{ArgumentsError, program};
+pub use effects::HasEffects;
 pub use host::run;
 pub use laws::numbers_of_a_run;
 pub use settings::{

@@ -5,17 +5,21 @@ ghost use Rattle.host_io.specs.Cause.{HasWriteCause};
 ghost use Rattle.project_model.specs.Bounds.{most_of, most_frames};
 ghost use Rattle.project_model.specs.Plain.{plain_of, plain_comp};
 ghost use Rattle.project_model.specs.Sound.{IsSound};
-ghost use Rattle.scene_meaning.specs.Scene.{plain_scene};
+ghost use Rattle.project_model.specs.Uses.{AreUses};
+ghost use Rattle.scene_meaning.specs.Steady.{IsSteady};
+ghost use Rattle.host_run.specs.Effects.{scene_of};
 ghost use Rattle.scene_meaning.specs.Output.{file, root_of, frame_count, root_file, frame_bytes, header_of};
 ghost use Rattle.host_run.specs.Stages.{InRoot};
 ghost use Rattle.host_run.specs.Written.{AppendsFront};
 
+use crate::effects::HasEffects;
 use crate::output::write_whole;
+use effect_api::Draw;
 use frame_draw::draw_frame;
 use frame_file::Header;
 use host_io::{Memory, Sink, SinkError};
 use project_model::{Comp, Project};
-use scene_meaning::Scene;
+use scene_meaning::{HasSet, Means, Scene};
 use std::alloc::Global;
 
 /// The first and the last frame of a span, both included.
@@ -41,57 +45,66 @@ fn header_of(scene: &Scene, comp: &Comp, first: u32, count: u32) -> Header
 }
 
 /// The pixels of a frame, in the memory of its picture.
-fn frame_pixels<const MAX: u32>(
+fn frame_pixels<E: Draw<MAX>, const MAX: u32>(
     alloc: Global,
     scene: &Scene,
+    effects: &E,
     comp: &Comp,
     frame: u32,
 ) -> Result<Vec<u8>, Memory>
     requires depth { MAX ≡ most_of scene.now.project.depth }
+    requires uses { AreUses E.schemas scene.now.project }
+    requires steady { IsSteady ⟦<E as HasSet>⟧.set }
     requires root { root_of (plain_of scene.now.project) ≡ Some (plain_comp comp.now) }
     requires frame { frame < comp.now.frames }
-    ensures { IfOk result (λ bytes. bytes.items ≡ frame_bytes (plain_scene scene.now) (plain_comp comp.now) frame) }
+    ensures { IfOk result (λ bytes. bytes.items ≡ frame_bytes (⟦<E as Means<MAX>>⟧.scene scene.now) (plain_comp comp.now) frame) }
 {
-    let picture = draw_frame::<MAX>(alloc, scene, frame)?;
+    let picture = draw_frame::<E, MAX>(alloc, scene, effects, frame)?;
     Ok(frame_file::into_frame_bytes(picture))
 }
 
 /// Draws a frame and writes it as one piece.
-fn write_frame<const MAX: u32, K: Sink>(
+fn write_frame<E: Draw<MAX>, const MAX: u32, K: Sink>(
     alloc: Global,
     scene: &Scene,
+    effects: &E,
     comp: &Comp,
     frame: u32,
     out: &mut K,
 ) -> Result<(), SinkError>
     requires depth { MAX ≡ most_of scene.now.project.depth }
+    requires uses { AreUses E.schemas scene.now.project }
+    requires steady { IsSteady ⟦<E as HasSet>⟧.set }
     requires root { root_of (plain_of scene.now.project) ≡ Some (plain_comp comp.now) }
     requires frame { frame < comp.now.frames }
-    ensures whole { OnOk result (Appends (K.written out.old) (K.written out.new) (frame_bytes (plain_scene scene.now) (plain_comp comp.now) frame)) }
-    ensures front { OnErr result (AppendsFront (K.written out.old) (K.written out.new) (frame_bytes (plain_scene scene.now) (plain_comp comp.now) frame)) }
+    ensures whole { OnOk result (Appends (K.written out.old) (K.written out.new) (frame_bytes (⟦<E as Means<MAX>>⟧.scene scene.now) (plain_comp comp.now) frame)) }
+    ensures front { OnErr result (AppendsFront (K.written out.old) (K.written out.new) (frame_bytes (⟦<E as Means<MAX>>⟧.scene scene.now) (plain_comp comp.now) frame)) }
     ensures cause { HasWriteCause (K.faults out.old) (K.faults out.new) result }
 {
-    match frame_pixels::<MAX>(alloc, scene, comp, frame) {
+    match frame_pixels::<E, MAX>(alloc, scene, effects, comp, frame) {
         Ok(bytes) => write_whole(out, &bytes),
         Err(Memory) => Err(SinkError::Memory),
     }
 }
 
 /// Writes the file of the root, which is `comp`: the header as one piece, and each frame as one.
-fn write_root<const MAX: u32, K: Sink>(
+fn write_root<E: Draw<MAX>, const MAX: u32, K: Sink>(
     alloc: Global,
     scene: &Scene,
+    effects: &E,
     comp: &Comp,
     span: Span,
     out: &mut K,
 ) -> Result<(), SinkError>
     requires depth { MAX ≡ most_of scene.now.project.depth }
+    requires uses { AreUses E.schemas scene.now.project }
+    requires steady { IsSteady ⟦<E as HasSet>⟧.set }
     requires root { root_of (plain_of scene.now.project) ≡ Some (plain_comp comp.now) }
     requires order { span.from ≤ span.to }
     requires end { span.to < comp.now.frames }
     requires few { comp.now.frames ≤ most_frames }
-    ensures whole { OnOk result (Appends (K.written out.old) (K.written out.new) (root_file (plain_scene scene.now) (plain_comp comp.now) span.from (span.to + 1 - span.from))) }
-    ensures front { OnErr result (AppendsFront (K.written out.old) (K.written out.new) (root_file (plain_scene scene.now) (plain_comp comp.now) span.from (span.to + 1 - span.from))) }
+    ensures whole { OnOk result (Appends (K.written out.old) (K.written out.new) (root_file (⟦<E as Means<MAX>>⟧.scene scene.now) (plain_comp comp.now) span.from (span.to + 1 - span.from))) }
+    ensures front { OnErr result (AppendsFront (K.written out.old) (K.written out.new) (root_file (⟦<E as Means<MAX>>⟧.scene scene.now) (plain_comp comp.now) span.from (span.to + 1 - span.from))) }
     ensures cause { HasWriteCause (K.faults out.old) (K.faults out.new) result }
 {
     let from = span.from;
@@ -99,7 +112,7 @@ fn write_root<const MAX: u32, K: Sink>(
     let header = header_of(scene, comp, from, end - from);
     write_whole(out, &frame_file::header_bytes(&header))?;
     'frames: for frame in from..end {
-        write_frame::<MAX, K>(alloc, scene, comp, frame, out)?;
+        write_frame::<E, MAX, K>(alloc, scene, effects, comp, frame, out)?;
     }
     Ok(())
 }
@@ -115,21 +128,24 @@ pub(crate) fn root_of(scene: &Scene) -> &Comp
 }
 
 /// Writes the file of a scene: the frames of its root in a span. One picture is held at a time.
-pub(crate) fn write_span<K: Sink>(
+pub(crate) fn write_span<E: Draw<255> + Draw<32768>, K: Sink>(
     alloc: Global,
     scene: &Scene,
+    effects: &E,
     span: Span,
     out: &mut K,
 ) -> Result<(), SinkError>
-    requires { InRoot (plain_of scene.now.project) span }
-    ensures whole { OnOk result (Appends (K.written out.old) (K.written out.new) (file (plain_scene scene.now) span.from span.to)) }
-    ensures front { OnErr result (AppendsFront (K.written out.old) (K.written out.new) (file (plain_scene scene.now) span.from span.to)) }
+    requires uses { AreUses E.schemas scene.now.project }
+    requires steady { IsSteady ⟦<E as HasSet>⟧.set }
+    requires span { InRoot (plain_of scene.now.project) span }
+    ensures whole { OnOk result (Appends (K.written out.old) (K.written out.new) (file (scene_of ⟦<E as HasEffects>⟧.effects scene.now) span.from span.to)) }
+    ensures front { OnErr result (AppendsFront (K.written out.old) (K.written out.new) (file (scene_of ⟦<E as HasEffects>⟧.effects scene.now) span.from span.to)) }
     ensures cause { HasWriteCause (K.faults out.old) (K.faults out.new) result }
 {
     let comp = root_of(scene);
     if scene.project().depth == 8 {
-        write_root::<255, K>(alloc, scene, comp, span, out)
+        write_root::<E, 255, K>(alloc, scene, effects, comp, span, out)
     } else {
-        write_root::<32768, K>(alloc, scene, comp, span, out)
+        write_root::<E, 32768, K>(alloc, scene, effects, comp, span, out)
     }
 }

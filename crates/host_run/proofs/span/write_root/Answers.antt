@@ -9,6 +9,7 @@ use Rattle.scene_meaning.specs.Scene.{plain_scene}
 use Rattle.project_model.specs.declared.plain.PlainComp.{PlainComp}
 use Rattle.scene_meaning.specs.Shown.{PlainScene}
 use Rattle.scene_meaning.specs.Output.{header_of, frame_bytes, root_file}
+use Rattle.effect_api.specs.Sets.{EffectSet, Drawing}
 use Rattle.host_run.specs.Written.{IsPrefix, AppendsFront}
 use Rattle.host_run.proofs.Known.{on_err, front_of, front_after, appends_more, prefix_more, prefix_behind}
 use Rattle.host_run.proofs.Frames.{pieces_more, pieces_prefix}
@@ -39,8 +40,17 @@ next_is p comp first count at m le e =
 
 pub returns-in_err-write_whole-clause-front : goal.returns-in_err-write_whole-clause-front
 returns-in_err-write_whole-clause-front g c =
+    let set : EffectSet = record {
+      schemas = g.E.Effect.schemas;
+      class_names = g.E.Effect.class_names;
+      wants = g.E.Effect.wants;
+      asks = g.E.Effect.asks;
+      bounds = g.E.Effect.bounds;
+      need = g.E.Effect.need;
+    } in
+    let drawing : Drawing = record { draws = g.E.Draw.draws; sums_of = g.E.Draw.sums_of } in
     let sink = g.K.Sink in
-    let p = plain_scene c.args.scene.now in
+    let p = plain_scene c.args.scene.now set drawing in
     let comp = plain_comp c.args.comp.now in
     let from = c.args.span.from in
     let count = c.args.span.to + 1 - from in
@@ -55,7 +65,16 @@ returns-in_err-write_whole-clause-front g c =
 pub returns-in_err-write_frame-clause-front : goal.returns-in_err-write_frame-clause-front
 unfolding so_far
 returns-in_err-write_frame-clause-front g c =
-    let p = plain_scene c.args.scene.now in
+    let set : EffectSet = record {
+      schemas = g.E.Effect.schemas;
+      class_names = g.E.Effect.class_names;
+      wants = g.E.Effect.wants;
+      asks = g.E.Effect.asks;
+      bounds = g.E.Effect.bounds;
+      need = g.E.Effect.need;
+    } in
+    let drawing : Drawing = record { draws = g.E.Draw.draws; sums_of = g.E.Draw.sums_of } in
+    let p = plain_scene c.args.scene.now set drawing in
     let comp = plain_comp c.args.comp.now in
     let from = c.args.span.from in
     let count = c.args.span.to + 1 - from in
@@ -69,8 +88,17 @@ returns-in_err-write_frame-clause-front g c =
 pub frames-preserved : goal.frames-preserved
 unfolding so_far
 frames-preserved g c =
+    let set : EffectSet = record {
+      schemas = g.E.Effect.schemas;
+      class_names = g.E.Effect.class_names;
+      wants = g.E.Effect.wants;
+      asks = g.E.Effect.asks;
+      bounds = g.E.Effect.bounds;
+      need = g.E.Effect.need;
+    } in
+    let drawing : Drawing = record { draws = g.E.Draw.draws; sums_of = g.E.Draw.sums_of } in
     let sink = g.K.Sink in
-    let p = plain_scene c.args.scene.now in
+    let p = plain_scene c.args.scene.now set drawing in
     let comp = plain_comp c.args.comp.now in
     let from = c.args.span.from in
     let count = c.args.span.to + 1 - from in

@@ -6,13 +6,23 @@ use Rattle.frame_file.specs.Afr.{header_bytes}
 use Rattle.project_model.specs.Plain.{plain_comp}
 use Rattle.scene_meaning.specs.Scene.{plain_scene}
 use Rattle.scene_meaning.specs.Output.{header_of, frame_bytes}
+use Rattle.effect_api.specs.Sets.{EffectSet, Drawing}
 use Rattle.host_run.proofs.span.write_root.Given as goal
 
 -- the header and the frames so far are written, and no write failed
 abbrev pub invariant-frames : goal.invariant-frames
 invariant-frames g l =
+    let set : EffectSet = record {
+      schemas = g.E.Effect.schemas;
+      class_names = g.E.Effect.class_names;
+      wants = g.E.Effect.wants;
+      asks = g.E.Effect.asks;
+      bounds = g.E.Effect.bounds;
+      need = g.E.Effect.need;
+    } in
+    let drawing : Drawing = record { draws = g.E.Draw.draws; sums_of = g.E.Draw.sums_of } in
     let sink = g.K.Sink in
-    let scene = plain_scene l.scene in
+    let scene = plain_scene l.scene set drawing in
     let comp = plain_comp l.comp in
     record {
       done : Appends (sink.written l.fn.out) (sink.written l.out)
