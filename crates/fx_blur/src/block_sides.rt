@@ -1,6 +1,6 @@
-ghost use Rattle.std.specs.Prelude.{◌≡◌, ◌<◌, ◌≤◌, ℤ, pos, ◌≤ℤ◌, ◌<ℤ◌, ◌-ℤ◌};
+ghost use Rattle.std.specs.Prelude.{◌≡◌, ◌<◌, ℤ, pos, ◌≤ℤ◌, ◌<ℤ◌, ◌-ℤ◌};
 ghost use Rattle.geom_rect.specs.Rect.{Has, positive_part, hull_of};
-ghost use Rattle.fx_blur.specs.Mosaic.{block_start, block_end, block_of, blocks_of};
+ghost use Rattle.fx_blur.specs.Mosaic.{block_start, block_end, block_of, blocks_between, blocks_of};
 
 use geom_rect::Rect;
 
@@ -58,6 +58,30 @@ fn hull(a: Rect, b: Rect) -> Rect
     }
 }
 
+// The last number before the high side.
+fn last_before(low: i32, high: i32) -> i32
+    requires { low <ℤ high }
+    ensures { result ≡ high -ℤ pos 1 }
+{
+    high - 1
+}
+
+// From the block of the near corner of a rectangle to that of the far one.
+fn blocks_between(size: u32, extent: &Rect, met: &Rect) -> Rect
+    requires some { 0 < size }
+    requires across { extent.now.left ≤ℤ met.now.left }
+    requires down { extent.now.top ≤ℤ met.now.top }
+    requires wide { met.now.left <ℤ met.now.right }
+    requires high { met.now.top <ℤ met.now.bottom }
+    ensures { result ≡ blocks_between size extent.now met.now }
+{
+    let near = block(size, extent, met.left, met.top);
+    let right = last_before(met.left, met.right);
+    let bottom = last_before(met.top, met.bottom);
+    let far = block(size, extent, right, bottom);
+    hull(near, far)
+}
+
 /// The cover of the blocks that meet a rectangle, `0,0,0,0` where none does. Blocks of `size` by `size` points, which is at
 /// least 1, begin at the extent's left top and are cut at its right and bottom.
 pub fn blocks(size: u32, extent: Rect, rect: Rect) -> Rect
@@ -66,9 +90,8 @@ pub fn blocks(size: u32, extent: Rect, rect: Rect) -> Rect
 {
     let met = rect.meet(&extent);
     if met.is_empty() {
-        return Rect::ORIGIN;
+        Rect::ORIGIN
+    } else {
+        blocks_between(size, &extent, &met)
     }
-    let near = block(size, &extent, met.left, met.top);
-    let far = block(size, &extent, met.right - 1, met.bottom - 1);
-    hull(near, far)
 }

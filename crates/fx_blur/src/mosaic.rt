@@ -30,7 +30,7 @@ struct Band {
 impl Band {
     // Whether the number is one of them.
     fn has(self, x: i32) -> bool
-        ensures { IsTrue result ↔ ((self.entry.low ≤ℤ x) × (x <ℤ self.entry.high)) }
+        ensures { IsTrue result ↔ ((self.low ≤ℤ x) × (x <ℤ self.high)) }
     {
         self.low <= x && x < self.high
     }

@@ -41,8 +41,8 @@ impl Sums {
     /// With a pixel more.
     #[inline(always)]
     pub fn plus<const MAX: u32>(self, pixel: Pixel<MAX>) -> Sums
-        requires { IsPremultiplied 4294967295 (plus self.entry pixel.entry) }
-        ensures { result ≡ plus self.entry pixel.entry }
+        requires { IsPremultiplied 4294967295 (plus self pixel) }
+        ensures { result ≡ plus self pixel.entry }
     {
         Sums {
             a: self.a + pixel.a(),
@@ -55,8 +55,8 @@ impl Sums {
     /// Without a pixel that is part of it.
     #[inline(always)]
     pub fn minus<const MAX: u32>(self, pixel: Pixel<MAX>) -> Sums
-        requires { Holds self.entry pixel.entry }
-        ensures { result ≡ minus self.entry pixel.entry }
+        requires { Holds self pixel }
+        ensures { result ≡ minus self pixel.entry }
     {
         Sums {
             a: self.a - pixel.a(),
@@ -101,8 +101,8 @@ impl Totals {
     /// With a column more.
     #[inline(always)]
     pub fn plus(self, column: Sums) -> Totals
-        requires { IsPremultiplied 1099511627775 (plus self.entry column) }
-        ensures { result ≡ plus self.entry column }
+        requires { IsPremultiplied 1099511627775 (plus self column) }
+        ensures { result ≡ plus self column }
     {
         Totals {
             a: self.a + column.a as u64,
@@ -115,8 +115,8 @@ impl Totals {
     /// Without a column that is part of it.
     #[inline(always)]
     pub fn minus(self, column: Sums) -> Totals
-        requires { Holds self.entry column }
-        ensures { result ≡ minus self.entry column }
+        requires { Holds self column }
+        ensures { result ≡ minus self column }
     {
         Totals {
             a: self.a - column.a as u64,
@@ -132,8 +132,8 @@ impl Totals {
         requires depth { IsDepth MAX }
         requires some { 0 < count }
         requires few { count ≤ 1048576 }
-        requires within { IsPremultiplied (MAX * count) self.entry }
-        ensures { result ≡ mean_of count self.entry }
+        requires within { IsPremultiplied (MAX * count) self }
+        ensures { result ≡ mean_of count self }
     {
         Pixel::of_channels(
             rounded_share(self.a, count),
