@@ -1,3 +1,4 @@
 pub mod Each
 pub mod Moving
 pub mod Adding
+pub mod Drawn

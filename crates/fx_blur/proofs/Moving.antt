@@ -90,3 +90,10 @@ module _ (most : ℕ) (pixel : ℤ → ℤ → Argb) (x y : ℤ) (rows : ℕ) (c
       fits k j l m =
           let e : y +ℤ pos (j + 1) ≡ (y +ℤ pos 1) +ℤ pos j = omega (arith, ints) in
           subst (λ v. IsPremultiplied most (pixel (x +ℤ pos k) v)) e (are.pixels k (j + 1) l (omega (arith, m)))
+
+-- the same sums, at numbers that are equal
+pub columns_at : (most : ℕ) (pixel : ℤ → ℤ → Argb) (x x' y y' : ℤ) (rows rows' : ℕ) (columns : List Argb) → x ≡ x' → y ≡ y' → rows ≡ rows'
+    → AreColumns most pixel x' y' rows' columns → AreColumns most pixel x y rows columns
+columns_at most pixel x x' y y' rows rows' columns ex ey er are =
+    subst (λ u. AreColumns most pixel u y rows columns) (sym ex)
+    (subst (λ v. AreColumns most pixel x' v rows columns) (sym ey) (subst (λ n. AreColumns most pixel x' y' n columns) (sym er) are))

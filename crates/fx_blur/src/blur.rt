@@ -8,7 +8,7 @@ ghost use Rattle.effect_api.specs.Effects.{Shows};
 ghost use Rattle.fx_blur.specs.Blur.{across, blur_at};
 ghost use Rattle.fx_blur.specs.Columns.{AreColumns};
 
-use crate::columns::{enter_row, leave_row, sum_rows};
+use crate::columns::{move_down, sum_rows};
 use crate::means::write_means;
 use crate::rows::{byte_room, count, number_at, pixel_room, sum_room};
 use crate::sums::Sums;
@@ -60,8 +60,7 @@ fn blur_row<const MAX: u32>(
     let top = number_below(y, radius);
     write_means(columns, across, into);
     target.set_row(y, into);
-    enter_row(columns, input, left, top, across, row);
-    leave_row(columns, input, left, top, across, row);
+    move_down(columns, input, left, top, across, row);
 }
 
 // Each row of the target, from the top. `columns`, `row` and `into` are room for the sums of the columns, for a packed row of

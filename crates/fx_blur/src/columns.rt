@@ -11,7 +11,7 @@ use argb_pixel::{Transparent, pixel_in};
 use argb_world::World;
 
 // The number that is so far above another.
-pub(crate) fn number_above(low: i64, k: u32) -> i64
+fn number_above(low: i64, k: u32) -> i64
     requires { IsReach low }
     ensures { result ≡ low +ℤ pos k }
 {
@@ -49,7 +49,7 @@ fn take_row<const MAX: u32>(columns: &mut [Sums], row: &[u8])
 }
 
 // The sums of so many rows from (x, y) on become those of one row more. `row` is room for a packed row.
-pub(crate) fn enter_row<const MAX: u32>(
+fn enter_row<const MAX: u32>(
     columns: &mut [Sums],
     from: &World<MAX>,
     x: i64,
@@ -70,7 +70,7 @@ pub(crate) fn enter_row<const MAX: u32>(
 }
 
 // The sums of so many rows and one more from (x, y) on become those without the first. `row` is room for a packed row.
-pub(crate) fn leave_row<const MAX: u32>(
+fn leave_row<const MAX: u32>(
     columns: &mut [Sums],
     from: &World<MAX>,
     x: i64,
@@ -109,4 +109,25 @@ pub(crate) fn sum_rows<const MAX: u32>(
     for j in 0..rows {
         enter_row(columns, from, x, y, j, row);
     }
+}
+
+// The sums of so many rows from (x, y) on become those from the row below on. `row` is room for a packed row.
+pub(crate) fn move_down<const MAX: u32>(
+    columns: &mut [Sums],
+    from: &World<MAX>,
+    x: i64,
+    y: i64,
+    rows: u32,
+    row: &mut [u8],
+)
+    requires depth { IsDepth MAX }
+    requires across { IsReach x }
+    requires down { IsReach y }
+    requires few { rows < 1025 }
+    requires room { length row.old ≡ pixel_size MAX * length columns.old }
+    requires sums { AreColumns MAX (at from.now) x y rows columns.old }
+    ensures { AreColumns MAX (at from.now) x (y +ℤ pos 1) rows columns.new }
+{
+    enter_row(columns, from, x, y, rows, row);
+    leave_row(columns, from, x, y, rows, row);
 }
