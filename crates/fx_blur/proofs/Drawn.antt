@@ -1,5 +1,5 @@
 -- What a row that is set shows.
-use Rattle.std.proofs.Common.{◌≡◌, ℕ, ◌+◌, ◌*◌, ◌<◌, ◌≤◌, ℤ, pos, ◌+ℤ◌, ◌-ℤ◌, List, length, get_or, ap, sym, ◌∙◌, arith}
+use Rattle.std.proofs.Common.{◌≡◌, ℕ, ◌+◌, ◌*◌, ◌<◌, ◌≤◌, ℤ, pos, ◌+ℤ◌, ◌-ℤ◌, ◌≤ℤ◌, ◌<ℤ◌, List, length, get_or, ap, sym, ◌∙◌, arith}
 use Rattle.std.proofs.lemmas.Int.{ints}
 use Rattle.geom_rect.specs.declared.rect.Rect.{Rect}
 use Rattle.geom_rect.specs.Rect.{Has, positive_part, count_between, width_of}
@@ -10,7 +10,7 @@ use Rattle.argb_world.proofs.Spans.{span_at}
 use Rattle.comp_stack.specs.Layers.{plane_of}
 use Rattle.fx_blur.specs.Sums.{total, column_sum, mean_of}
 use Rattle.fx_blur.specs.Blur.{across, blur_at}
-use Rattle.fx_blur.specs.Columns.{AreColumns}
+use Rattle.fx_blur.specs.Columns.{AreColumns, ServesBand}
 use Rattle.fx_blur.specs.SumLaws.{total_alike}
 use Rattle.fx_blur.specs.Laws.{window_along}
 use Rattle.fx_blur.proofs.Adding.{sum_from}
@@ -53,3 +53,13 @@ blur_shown most radius p q part y columns row same set long are means x h =
     let near = below part.left part.right x h.0 h.1 in
     row_shows q part y row same set x h ∙ means (positive_part (x -ℤ part.left)) near
     ∙ window_mean most radius p part.left x y (positive_part (x -ℤ part.left)) columns (omega (arith, ints, far)) (omega (arith, near, long)) are
+
+-- a row that serves the height
+pub served_shown : (drawing : ℤ → ℤ → Argb) (q : Picture) (part : Rect) (low high y : ℤ) (row : List Argb) → q.part ≡ part → row_of q y ≡ row
+    → length row ≡ width_of part → ServesBand drawing part.left low high row → low ≤ℤ y → y <ℤ high
+    → (x : ℤ) → Has part x y → at q x y ≡ drawing x y
+served_shown drawing q part low high y row same set long serves first last x h =
+    let far = positive_part_is (x -ℤ part.left) (omega (arith, ints, h.0)) in
+    let near = below part.left part.right x h.0 h.1 in
+    let place : part.left +ℤ pos (positive_part (x -ℤ part.left)) ≡ x = omega (arith, ints, far) in
+    row_shows q part y row same set x h ∙ serves y first last (positive_part (x -ℤ part.left)) (omega (arith, near, long)) ∙ ap (λ u. drawing u y) place

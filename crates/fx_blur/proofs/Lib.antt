@@ -2,3 +2,4 @@ pub mod Each
 pub mod Moving
 pub mod Adding
 pub mod Drawn
+pub mod BlockMeans

@@ -1,6 +1,7 @@
 -- What the sums of columns and the rows are while a picture is gone through from the top.
 use Rattle.std.specs.Prelude.{◌≡◌, ℕ, ◌+◌, ◌*◌, ◌<◌, ◌≤◌, ◌-◌, ℤ, pos, ◌+ℤ◌, ◌-ℤ◌, ◌≤ℤ◌, ◌<ℤ◌, int_le, int_lt, ◌&&◌, if◌then◌else◌, List, length, slice_index_or}
 use Rattle.geom_rect.specs.Rect.{count_between, positive_part}
+use Rattle.argb_pixel.specs.Depth.{IsDepth}
 use Rattle.argb_pixel.specs.Pixel.{Argb, IsPremultiplied, clear}
 use Rattle.fx_blur.specs.Sums.{total, column_sum, mean_of}
 use Rattle.fx_blur.specs.Mosaic.{block_start, block_end}
@@ -38,3 +39,12 @@ block_mean size low high start rows columns x =
 abbrev pub ServesBand : (ℤ → ℤ → Argb) → ℤ → ℤ → ℤ → List Argb → Type 0
 ServesBand drawing left low high row =
     (y : ℤ) → low ≤ℤ y → y <ℤ high → (i : ℕ) → i < length row → slice_index_or row i clear ≡ drawing (left +ℤ pos i) y
+
+-- columns of so many rows, and blocks of a size, as they may be
+pub record AreSummed (most size rows : ℕ) (columns : List Argb) : Type 0 where
+  pub depth : IsDepth most
+  pub some : 0 < size
+  pub few : size ≤ 1024
+  pub any : 0 < rows
+  pub short : rows ≤ 1024
+  pub within : (k : ℕ) → k < length columns → IsPremultiplied (most * rows) (slice_index_or columns k clear)

@@ -1,13 +1,13 @@
 ghost use Rattle.std.specs.Prelude.{◌≡◌, ◌+◌, ◌*◌, ◌<◌, ◌≤◌, ℕ, ℤ, pos, ◌+ℤ◌, ◌-ℤ◌, ◌≤ℤ◌, ◌<ℤ◌, length, slice_index_or, OnOk, IsTrue, ◌↔◌};
 ghost use Rattle.geom_rect.specs.Rect.{Has, count_between, width_of};
 ghost use Rattle.argb_pixel.specs.Depth.{IsDepth};
-ghost use Rattle.argb_pixel.specs.Pixel.{IsPremultiplied, clear};
+ghost use Rattle.argb_pixel.specs.Pixel.{clear};
 ghost use Rattle.argb_pixel.specs.Packed.{pixel_size};
 ghost use Rattle.argb_world.specs.Picture.{at, HasRow, SameExtentAndPart, StaysOffRow};
 ghost use Rattle.comp_stack.specs.Layers.{plane_of};
 ghost use Rattle.effect_api.specs.Effects.{Shows};
-ghost use Rattle.fx_blur.specs.Mosaic.{block_of, mosaic_at, blocks_of};
-ghost use Rattle.fx_blur.specs.Columns.{HasBlock, ServesBand, block_mean};
+ghost use Rattle.fx_blur.specs.Mosaic.{block_start, block_end, mosaic_at};
+ghost use Rattle.fx_blur.specs.Columns.{AreSummed, HasBlock, ServesBand, block_mean};
 
 use crate::block_sides::{block_end, block_start, blocks};
 use crate::columns::sum_rows;
@@ -36,11 +36,31 @@ impl Band {
     }
 }
 
-// A pixel of all columns of a band.
+// A pixel of all columns from `low`, inclusive, to `high`, exclusive.
 #[derive(Clone, Copy)]
 struct Stripe<const MAX: u32> {
-    band: Band,
+    low: i32,
+    high: i32,
     pixel: Pixel<MAX>,
+}
+
+// Whether the rectangle has the height, if it has columns.
+fn has_row(rect: &Rect, y: i32) -> bool
+    ensures { IsTrue result ↔ HasRow rect.now y }
+{
+    rect.top <= y && y < rect.bottom
+}
+
+// Where the columns of the block of x begin, counted from `start`, and how many there are.
+fn block_columns(size: u32, sides: Band, start: i32, x: i32) -> (u32, u32)
+    requires some { 0 < size }
+    requires low { sides.low ≤ℤ x }
+    ensures place { result.0 ≡ count_between start (block_start size sides.low x) }
+    ensures wide { result.1 ≡ count_between (block_start size sides.low x) (block_end size sides.low sides.high x) }
+{
+    let left = block_start(size, sides.low, x);
+    let right = block_end(size, sides.low, sides.high, x);
+    (count(start, left), count(left, right))
 }
 
 // The mean of the block of x, of whose columns so many rows are summed. The first column stands at `start`.
@@ -52,20 +72,14 @@ fn block_mean<const MAX: u32>(
     columns: &[Sums],
     x: i32,
 ) -> Pixel<MAX>
-    requires depth { IsDepth MAX }
-    requires some { 0 < size }
-    requires few { size ≤ 1024 }
-    requires any { 0 < rows }
-    requires short { rows ≤ 1024 }
+    requires summed { AreSummed MAX size rows columns.now }
     requires low { sides.low ≤ℤ x }
     requires high { x <ℤ sides.high }
     requires there { HasBlock size sides.low sides.high start (length columns.now) x }
-    requires within { (k : ℕ) → k < length columns.now → IsPremultiplied (MAX * rows) (slice_index_or columns.now k clear) }
     ensures { result ≡ block_mean size sides.low sides.high start rows columns.now x }
 {
-    let left = block_start(size, sides.low, x);
-    let wide = count(left, block_end(size, sides.low, sides.high, x));
-    let sum = sum_columns(columns, count(start, left) as usize, wide);
+    let (place, wide) = block_columns(size, sides, start, x);
+    let sum = sum_columns(columns, place as usize, wide);
     sum.mean(wide as u64 * rows as u64)
 }
 
@@ -78,67 +92,52 @@ fn stripe_at<const MAX: u32>(
     columns: &[Sums],
     x: i32,
 ) -> Stripe<MAX>
-    requires depth { IsDepth MAX }
-    requires some { 0 < size }
-    requires few { size ≤ 1024 }
-    requires any { 0 < rows }
-    requires short { rows ≤ 1024 }
+    requires summed { AreSummed MAX size rows columns.now }
     requires right { x <ℤ pos 2147483647 }
     requires there { sides.low ≤ℤ x → x <ℤ sides.high → HasBlock size sides.low sides.high start (length columns.now) x }
-    requires within { (k : ℕ) → k < length columns.now → IsPremultiplied (MAX * rows) (slice_index_or columns.now k clear) }
-    ensures low { result.band.low ≤ℤ x }
-    ensures high { x <ℤ result.band.high }
-    ensures pixel { (u : ℤ) → result.band.low ≤ℤ u → u <ℤ result.band.high
+    ensures low { result.low ≤ℤ x }
+    ensures high { x <ℤ result.high }
+    ensures pixel { (u : ℤ) → result.low ≤ℤ u → u <ℤ result.high
         → result.pixel ≡ block_mean size sides.low sides.high start rows columns.now u }
 {
     if sides.has(x) {
         Stripe {
-            band: Band {
-                low: block_start(size, sides.low, x),
-                high: block_end(size, sides.low, sides.high, x),
-            },
+            low: block_start(size, sides.low, x),
+            high: block_end(size, sides.low, sides.high, x),
             pixel: block_mean(size, sides, start, rows, columns, x),
         }
     } else {
         Stripe {
-            band: Band {
-                low: x,
-                high: x + 1,
-            },
+            low: x,
+            high: x + 1,
             pixel: Pixel::CLEAR,
         }
     }
 }
 
-// The same, where the stripe at hand may be the one.
-fn stripe_from<const MAX: u32>(
-    stripe: Stripe<MAX>,
+// The stripe becomes that which has x, where it is not.
+fn move_stripe<const MAX: u32>(
+    stripe: &mut Stripe<MAX>,
     size: u32,
     sides: Band,
     start: i32,
     rows: u32,
     columns: &[Sums],
     x: i32,
-) -> Stripe<MAX>
-    requires depth { IsDepth MAX }
-    requires some { 0 < size }
-    requires few { size ≤ 1024 }
-    requires any { 0 < rows }
-    requires short { rows ≤ 1024 }
+)
+    requires summed { AreSummed MAX size rows columns.now }
     requires right { x <ℤ pos 2147483647 }
     requires there { sides.low ≤ℤ x → x <ℤ sides.high → HasBlock size sides.low sides.high start (length columns.now) x }
-    requires within { (k : ℕ) → k < length columns.now → IsPremultiplied (MAX * rows) (slice_index_or columns.now k clear) }
-    requires pixel { (u : ℤ) → stripe.band.low ≤ℤ u → u <ℤ stripe.band.high
-        → stripe.pixel ≡ block_mean size sides.low sides.high start rows columns.now u }
-    ensures here { result.pixel ≡ block_mean size sides.low sides.high start rows columns.now x }
-    ensures pixel { (u : ℤ) → result.band.low ≤ℤ u → u <ℤ result.band.high
-        → result.pixel ≡ block_mean size sides.low sides.high start rows columns.now u }
+    requires pixel { (u : ℤ) → stripe.old.low ≤ℤ u → u <ℤ stripe.old.high
+        → stripe.old.pixel ≡ block_mean size sides.low sides.high start rows columns.now u }
+    ensures here { stripe.new.pixel ≡ block_mean size sides.low sides.high start rows columns.now x }
+    ensures pixel { (u : ℤ) → stripe.new.low ≤ℤ u → u <ℤ stripe.new.high
+        → stripe.new.pixel ≡ block_mean size sides.low sides.high start rows columns.now u }
 {
-    if stripe.band.has(x) {
-        stripe
-    } else {
-        stripe_at(size, sides, start, rows, columns, x)
+    if stripe.low <= x && x < stripe.high {
+        return;
     }
+    *stripe = stripe_at(size, sides, start, rows, columns, x);
 }
 
 // Each pixel of a row from `left` to before `right` becomes the mean of its block, of whose columns so many rows are summed.
@@ -151,26 +150,87 @@ fn write_blocks<const MAX: u32>(
     part: Rect,
     into: &mut [Pixel<MAX>],
 )
-    requires depth { IsDepth MAX }
-    requires some { 0 < size }
-    requires few { size ≤ 1024 }
-    requires any { 0 < rows }
-    requires short { rows ≤ 1024 }
+    requires summed { AreSummed MAX size rows columns.now }
     requires room { length into.old ≡ width_of part }
     requires there { (u : ℤ) → part.left ≤ℤ u → u <ℤ part.right → sides.low ≤ℤ u → u <ℤ sides.high
         → HasBlock size sides.low sides.high start (length columns.now) u }
-    requires within { (k : ℕ) → k < length columns.now → IsPremultiplied (MAX * rows) (slice_index_or columns.now k clear) }
     ensures { (i : ℕ) → i < length into.old
         → slice_index_or into.new i clear ≡ block_mean size sides.low sides.high start rows columns.now (part.left +ℤ pos i) }
 {
     let mut stripe = Stripe {
-        band: Band { low: 0, high: 0 },
+        low: 0,
+        high: 0,
         pixel: Pixel::CLEAR,
     };
     for i in 0..count(part.left, part.right) {
         let x = number_at(part.left, part.right, i);
-        stripe = stripe_from(stripe, size, sides, start, rows, columns, x);
+        move_stripe(&mut stripe, size, sides, start, rows, columns, x);
         into[i as usize] = stripe.pixel;
+    }
+}
+
+// Each pixel of a row becomes transparent.
+fn clear_row<const MAX: u32>(row: &mut [Pixel<MAX>])
+    ensures { (k : ℕ) → k < length row.old → slice_index_or row.new k clear ≡ clear }
+{
+    row.fill(Pixel::CLEAR);
+}
+
+// A transparent row serves a height outside the extent.
+fn fill_clear<const MAX: u32>(
+    size: u32,
+    input: &World<MAX>,
+    part: Rect,
+    y: i32,
+    into: &mut [Pixel<MAX>],
+) -> Band
+    requires height { HasRow part y }
+    requires outside { ¬ HasRow input.now.extent y }
+    ensures low { result.low ≤ℤ y }
+    ensures high { y <ℤ result.high }
+    ensures serves { ServesBand (mosaic_at size (plane_of input.now)) part.left result.low result.high into.new }
+{
+    clear_row(into);
+    Band { low: y, high: y + 1 }
+}
+
+// A row of blocks serves the heights of the blocks at y, which is inside the extent.
+fn fill_blocks<const MAX: u32>(
+    size: u32,
+    input: &World<MAX>,
+    part: Rect,
+    start: i32,
+    y: i32,
+    columns: &mut [Sums],
+    row: &mut [u8],
+    into: &mut [Pixel<MAX>],
+) -> Band
+    requires depth { IsDepth MAX }
+    requires some { 0 < size }
+    requires few { size ≤ 1024 }
+    requires height { HasRow part y }
+    requires inside { HasRow input.now.extent y }
+    requires bytes { length row.old ≡ pixel_size MAX * length columns.old }
+    requires room { length into.old ≡ width_of part }
+    requires there { (u : ℤ) → Has part u y → Has input.now.extent u y
+        → HasBlock size input.now.extent.left input.now.extent.right start (length columns.old) u }
+    ensures low { result.low ≤ℤ y }
+    ensures high { y <ℤ result.high }
+    ensures serves { ServesBand (mosaic_at size (plane_of input.now)) part.left result.low result.high into.new }
+{
+    let extent = input.extent();
+    let top = block_start(size, extent.top, y);
+    let bottom = block_end(size, extent.top, extent.bottom, y);
+    let rows = count(top, bottom);
+    sum_rows(columns, input, start as i64, top as i64, rows, row);
+    let sides = Band {
+        low: extent.left,
+        high: extent.right,
+    };
+    write_blocks(size, sides, start, rows, columns, part, into);
+    Band {
+        low: top,
+        high: bottom,
     }
 }
 
@@ -199,29 +259,42 @@ fn fill_band<const MAX: u32>(
     ensures serves { ServesBand (mosaic_at size (plane_of input.now)) part.left result.low result.high into.new }
 {
     let extent = input.extent();
-    let down = Band {
-        low: extent.top,
-        high: extent.bottom,
-    };
-    if !down.has(y) {
-        into.fill(Pixel::CLEAR);
-        return Band {
-            low: y,
-            high: y + 1,
-        };
+    if has_row(&extent, y) {
+        fill_blocks(size, input, part, start, y, columns, row, into)
+    } else {
+        fill_clear(size, input, part, y, into)
     }
-    let top = block_start(size, extent.top, y);
-    let bottom = block_end(size, extent.top, extent.bottom, y);
-    let rows = count(top, bottom);
-    sum_rows(columns, input, start as i64, top as i64, rows, row);
-    let sides = Band {
-        low: extent.left,
-        high: extent.right,
-    };
-    write_blocks(size, sides, start, rows, columns, part, into);
-    Band {
-        low: top,
-        high: bottom,
+}
+
+// The row serves the height: as it is, or filled anew.
+fn serve<const MAX: u32>(
+    size: u32,
+    input: &World<MAX>,
+    part: Rect,
+    start: i32,
+    y: i32,
+    band: Band,
+    columns: &mut [Sums],
+    row: &mut [u8],
+    into: &mut [Pixel<MAX>],
+) -> Band
+    requires depth { IsDepth MAX }
+    requires some { 0 < size }
+    requires few { size ≤ 1024 }
+    requires height { HasRow part y }
+    requires bytes { length row.old ≡ pixel_size MAX * length columns.old }
+    requires room { length into.old ≡ width_of part }
+    requires there { (u : ℤ) → Has part u y → Has input.now.extent u y
+        → HasBlock size input.now.extent.left input.now.extent.right start (length columns.old) u }
+    requires serves { ServesBand (mosaic_at size (plane_of input.now)) part.left band.low band.high into.old }
+    ensures low { result.low ≤ℤ y }
+    ensures high { y <ℤ result.high }
+    ensures serves { ServesBand (mosaic_at size (plane_of input.now)) part.left result.low result.high into.new }
+{
+    if band.has(y) {
+        band
+    } else {
+        fill_band(size, input, part, start, y, columns, row, into)
     }
 }
 
@@ -252,13 +325,9 @@ fn mosaic_row<const MAX: u32>(
     ensures serves { ServesBand (mosaic_at size (plane_of input.now)) target.old.part.left result.low result.high into.new }
 {
     let part = target.part();
-    let band = if band.has(y) {
-        band
-    } else {
-        fill_band(size, input, part, start, y, columns, row, into)
-    };
+    let served = serve(size, input, part, start, y, band, columns, row, into);
     target.set_row(y, into);
-    band
+    served
 }
 
 // Each row of the target, from the top.
