@@ -4,18 +4,18 @@ use Rattle.std.specs.Int.{int_min}
 use Rattle.std.proofs.Common.{◌≡◌, ℕ, ◌+◌, ◌*◌, ◌<◌, ◌≤◌, ℤ, pos, ◌+ℤ◌, ◌-ℤ◌, ◌≤ℤ◌, ◌<ℤ◌, Bool, true, false, if◌then◌else◌, List, length, get_or, refl, ap, sym, subst, ◌∙◌, arith}
 use Rattle.std.proofs.lemmas.Int.{ints, clamps}
 use Rattle.geom_rect.specs.declared.rect.Rect.{Rect}
-use Rattle.geom_rect.specs.Rect.{Has, has, positive_part, count_between, width_of, area_of}
-use Rattle.geom_rect.proofs.Points.{Has-from_true, has-true}
+use Rattle.geom_rect.specs.Rect.{Has, IsWithin, has, positive_part, count_between, width_of}
+use Rattle.geom_rect.proofs.Points.{Has-from_true, has-true, outside_from_within}
 use Rattle.argb_pixel.specs.Pixel.{Argb, IsPremultiplied, clear}
 use Rattle.argb_world.specs.Picture.{Picture, at, HasRow}
 use Rattle.argb_world.proofs.Places.{positive_part_is}
 use Rattle.argb_world.proofs.Rows.{column_below}
 use Rattle.comp_stack.specs.Layers.{plane_of}
 use Rattle.fx_blur.specs.Sums.{total, column_sum, sum_over, mean_of}
-use Rattle.fx_blur.specs.Mosaic.{block_start, block_end, block_of, mosaic_at}
+use Rattle.fx_blur.specs.Mosaic.{block_start, block_end, block_of, blocks_of, mosaic_at}
 use Rattle.fx_blur.specs.Columns.{AreColumns, AreSummed, HasBlock, block_mean}
 use Rattle.fx_blur.specs.SumLaws.{total_alike, premultiplied_more}
-use Rattle.fx_blur.specs.Blocks.{IsAround, around, same_block}
+use Rattle.fx_blur.specs.Blocks.{IsAround, around, same_block, block_has, room_of_point, block_within_blocks}
 use Rattle.fx_blur.specs.Laws.{mosaic_inside, mosaic_outside}
 use Rattle.fx_blur.proofs.Adding.{AreWithin, sum_from, sum_within}
 use Rattle.fx_blur.proofs.Moving.{most_within}
@@ -144,3 +144,13 @@ mosaic_off_row size p u v none = by (has p.extent u v) refl
     by : (b : Bool) → has p.extent u v ≡ b → mosaic_at size (plane_of p) u v ≡ clear
     by true e = let h = Has-from_true p.extent u v e in absurd (none (h.2, h.3))
     by false e = mosaic_outside size (plane_of p) u v e
+
+-- the columns of the blocks that meet a rectangle have the block of each of its points
+pub blocks_hold : (size : ℕ) (extent rect all : Rect) (count : ℕ) (u v : ℤ) → 0 < size → all ≡ blocks_of size extent rect → count ≡ width_of all
+    → Has rect u v → Has extent u v → HasBlock size extent.left extent.right all.left count u
+blocks_hold size extent rect all count u v some is wide h k =
+    let block = block_has size extent u v some k in
+    let room = room_of_point (block_of size extent u v) u v block in
+    let out = outside_from_within (block_of size extent u v) all room (subst (λ (r : Rect). IsWithin (block_of size extent u v) r) (sym is) (block_within_blocks size extent rect u v some h k)) in
+    let far = positive_part_is (all.right -ℤ all.left) (omega (arith, ints, out.left, out.right, room.across)) in
+    (out.left, omega (arith, ints, out.right, far, wide))

@@ -124,7 +124,8 @@ rect_within_blocks size extent rect x y some h k = block_within_blocks size exte
 far_corner : (rect : Rect) → HasRoom rect → Has rect (rect.right -ℤ pos 1) (rect.bottom -ℤ pos 1)
 far_corner rect room = (omega (arith, ints, room.across), omega (arith, ints), omega (arith, ints, room.down), omega (arith, ints))
 
-room_of_point : (rect : Rect) (x y : ℤ) → Has rect x y → HasRoom rect
+-- a rectangle with a point has room
+pub room_of_point : (rect : Rect) (x y : ℤ) → Has rect x y → HasRoom rect
 room_of_point rect x y h = record { across = omega (arith, ints, h.0, h.1); down = omega (arith, ints, h.2, h.3) }
 
 -- the cover is the least rectangle with all of these blocks
