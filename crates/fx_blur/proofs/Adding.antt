@@ -26,8 +26,8 @@ pub adding_fits : (columns : List Argb) (start count : ℕ) (sum item : Argb) �
 adding_fits columns start count sum item within there few so_far is =
     premultiplied_more (33554432 * count + 33554432) 1099511627775 (plus sum item) (omega (arith, few))
     (plus_premultiplied (33554432 * count) 33554432 sum item
-      (subst (IsPremultiplied (33554432 * count)) (sym so_far) (sum_within 33554432 columns start count within (omega (arith, there))))
-      (subst (IsPremultiplied 33554432) (sym (get_or_read columns (start + count) item there is clear)) (within (start + count) there)))
+    (subst (IsPremultiplied (33554432 * count)) (sym so_far) (sum_within 33554432 columns start count within (omega (arith, there))))
+    (subst (IsPremultiplied 33554432) (sym (get_or_read columns (start + count) item there is clear)) (within (start + count) there)))
 
 module _ (columns : List Argb) (place count : ℕ) (sum first last whole : Argb) where
   -- the sum with the column that enters is the next sum with the column that leaves

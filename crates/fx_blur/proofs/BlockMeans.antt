@@ -2,16 +2,15 @@
 use Rattle.std.specs.Prelude.{int_le, int_lt, ◌&&◌}
 use Rattle.std.specs.Int.{int_min}
 use Rattle.std.proofs.Common.{◌≡◌, ℕ, ◌+◌, ◌*◌, ◌<◌, ◌≤◌, ℤ, pos, ◌+ℤ◌, ◌-ℤ◌, ◌≤ℤ◌, ◌<ℤ◌, Bool, true, false, if◌then◌else◌, List, length, get_or, refl, ap, sym, subst, ◌∙◌, arith}
-use Rattle.std.proofs.lemmas.Int.{ints, clamps}
+use Rattle.std.proofs.lemmas.Int.{ints}
 use Rattle.geom_rect.specs.declared.rect.Rect.{Rect}
 use Rattle.geom_rect.specs.Rect.{Has, IsWithin, has, positive_part, count_between, width_of}
 use Rattle.geom_rect.proofs.Points.{Has-from_true, has-true, outside_from_within}
 use Rattle.argb_pixel.specs.Pixel.{Argb, IsPremultiplied, clear}
 use Rattle.argb_world.specs.Picture.{Picture, at, HasRow}
 use Rattle.argb_world.proofs.Places.{positive_part_is}
-use Rattle.argb_world.proofs.Rows.{column_below}
 use Rattle.comp_stack.specs.Layers.{plane_of}
-use Rattle.fx_blur.specs.Sums.{total, column_sum, sum_over, mean_of}
+use Rattle.fx_blur.specs.Sums.{total, column_sum, mean_of}
 use Rattle.fx_blur.specs.Mosaic.{block_start, block_end, block_of, blocks_of, mosaic_at}
 use Rattle.fx_blur.specs.Columns.{AreColumns, AreSummed, HasBlock, block_mean}
 use Rattle.fx_blur.specs.SumLaws.{total_alike, premultiplied_more}
@@ -103,7 +102,7 @@ pub mean_is_mosaic : (most size : ℕ) (p : Picture) (start y : ℤ) (columns : 
     → (u v : ℤ) → block_start size p.extent.top y ≤ℤ v → v <ℤ block_end size p.extent.top p.extent.bottom y
     → (Has p.extent u y → HasBlock size p.extent.left p.extent.right start (length columns) u)
     → block_mean size p.extent.left p.extent.right start (count_between (block_start size p.extent.top y) (block_end size p.extent.top p.extent.bottom y)) columns u
-      ≡ mosaic_at size (plane_of p) u v
+    ≡ mosaic_at size (plane_of p) u v
 mean_is_mosaic most size p start y columns some height are u v first last there = by (has p.extent u v) refl
   where
     down : IsAround size p.extent.top p.extent.bottom y
@@ -124,17 +123,17 @@ mean_is_mosaic most size p start y columns some height are u v first last there 
         let is = block_wide size p.extent.left p.extent.right start (length columns) u some h.0 h.1 (there (h.0, h.1, height.0, height.1)) in
         mean_inside size p.extent.left p.extent.right start rows columns u h.0 h.1
         ∙ ap (mean_of (wide * rows)) (total_alike (λ k. get_or columns (positive_part (block_start size p.extent.left u -ℤ start) + k) clear)
-          (λ k. column_sum (at p) (block_start size p.extent.left u +ℤ pos k) (block_start size p.extent.top y) rows) wide λ k l.
-          are.sums (positive_part (block_start size p.extent.left u -ℤ start) + k) (omega (arith, l, is.there))
-          ∙ (let e : start +ℤ pos (positive_part (block_start size p.extent.left u -ℤ start) + k) ≡ block_start size p.extent.left u +ℤ pos k = omega (arith, ints, is.place) in
-            ap (λ x. column_sum (at p) x (block_start size p.extent.top y) rows) e))
+        (λ k. column_sum (at p) (block_start size p.extent.left u +ℤ pos k) (block_start size p.extent.top y) rows) wide λ k l.
+        are.sums (positive_part (block_start size p.extent.left u -ℤ start) + k) (omega (arith, l, is.there))
+        ∙ (let e : start +ℤ pos (positive_part (block_start size p.extent.left u -ℤ start) + k) ≡ block_start size p.extent.left u +ℤ pos k = omega (arith, ints, is.place) in
+        ap (λ x. column_sum (at p) x (block_start size p.extent.top y) rows) e))
         ∙ ap (λ (t : ℤ). mean_of (wide * count_between t (int_min (t +ℤ pos size) p.extent.bottom))
-          (total (λ k. column_sum (at p) (block_start size p.extent.left u +ℤ pos k) t (count_between t (int_min (t +ℤ pos size) p.extent.bottom))) wide)) (sym begin)
+        (total (λ k. column_sum (at p) (block_start size p.extent.left u +ℤ pos k) t (count_between t (int_min (t +ℤ pos size) p.extent.bottom))) wide)) (sym begin)
         ∙ sym (mosaic_inside size (plane_of p) u v e)
     by false e =
         mean_outside size p.extent.left p.extent.right start rows columns u (λ h.
-          let same : has p.extent u v ≡ true = has-true p.extent u v (h.0, h.1, omega (arith, ints, down.from_low, first), omega (arith, ints, down.to_high, last)) in
-          cc)
+        let same : has p.extent u v ≡ true = has-true p.extent u v (h.0, h.1, omega (arith, ints, down.from_low, first), omega (arith, ints, down.to_high, last)) in
+        cc)
         ∙ sym (mosaic_outside size (plane_of p) u v e)
 
 -- outside the extent's rows nothing is drawn

@@ -1,14 +1,13 @@
 -- Sums of columns while a row enters and a row leaves.
 use Rattle.std.specs.List.{All}
-use Rattle.std.proofs.Common.{◌≡◌, ℕ, suc, ◌+◌, ◌*◌, ◌<◌, ◌≤◌, ℤ, pos, ◌+ℤ◌, List, length, get_or, refl, ap, sym, subst, ◌∙◌, arith, ◌⊎◌, inl, inr}
+use Rattle.std.proofs.Common.{◌≡◌, ℕ, suc, ◌+◌, ◌*◌, ◌<◌, ◌≤◌, ℤ, pos, ◌+ℤ◌, List, length, get_or, ap, sym, subst, ◌∙◌, arith, ◌⊎◌, inl, inr}
 use Rattle.std.proofs.lemmas.Int.{ints}
 use Rattle.std.proofs.lemmas.Bool.{cases_lt}
-use Rattle.std.proofs.Math.Nat.{mul-le-mul_left}
 use Rattle.argb_pixel.specs.Depth.{IsDepth}
 use Rattle.argb_pixel.specs.Pixel.{Argb, IsPremultiplied, clear}
 use Rattle.argb_world.specs.Picture.{Picture, at, span_of}
 use Rattle.argb_world.proofs.Spans.{span_at, length_span}
-use Rattle.fx_blur.specs.Sums.{plus, total, column_sum}
+use Rattle.fx_blur.specs.Sums.{plus, column_sum}
 use Rattle.fx_blur.specs.Columns.{Holds, minus, AreColumns}
 use Rattle.fx_blur.specs.SumLaws.{total_more, total_first, total_alike, total_premultiplied, premultiplied_more, plus_premultiplied, minus_plus, holds_part}
 
@@ -70,7 +69,7 @@ module _ (most : ℕ) (pixel : ℤ → ℤ → Argb) (x y : ℤ) (rows : ℕ) (c
       are.sums k l ∙ (let e : rows + 1 ≡ suc rows = omega arith in ap (column_sum pixel (x +ℤ pos k) y) e)
       ∙ total_first (λ j. pixel (x +ℤ pos k) (y +ℤ pos j)) rows
       ∙ ap (λ (s : Argb). plus s (pixel (x +ℤ pos k) (y +ℤ pos 0))) (total_alike (λ j. pixel (x +ℤ pos k) (y +ℤ pos (suc j))) (λ j. pixel (x +ℤ pos k) ((y +ℤ pos 1) +ℤ pos j)) rows λ j _.
-        let e : y +ℤ pos (suc j) ≡ (y +ℤ pos 1) +ℤ pos j = omega (arith, ints) in ap (pixel (x +ℤ pos k)) e)
+      let e : y +ℤ pos (suc j) ≡ (y +ℤ pos 1) +ℤ pos j = omega (arith, ints) in ap (pixel (x +ℤ pos k)) e)
       ∙ ap (plus (column_sum pixel (x +ℤ pos k) (y +ℤ pos 1) rows)) ((let e : y +ℤ pos 0 ≡ y = omega (arith, ints) in ap (pixel (x +ℤ pos k)) e) ∙ sym (above.pixels k l))
 
   -- the first row is part of the sums

@@ -1,9 +1,9 @@
 -- What holds of blur and mosaic: pictures again, and each drawn from what is near alone.
-use Rattle.std.proofs.Common.{◌≡◌, ℕ, ◌+◌, ◌*◌, ◌<◌, ◌≤◌, ℤ, pos, ◌+ℤ◌, ◌-ℤ◌, Bool, true, false, if◌then◌else◌, refl, ap, sym, subst, ◌∙◌, arith}
+use Rattle.std.proofs.Common.{◌≡◌, ℕ, ◌+◌, ◌*◌, ◌<◌, ℤ, pos, ◌+ℤ◌, ◌-ℤ◌, Bool, true, false, if◌then◌else◌, refl, ap, sym, subst, ◌∙◌, arith}
 use Rattle.std.proofs.Math.Nat.{mul-pos}
 use Rattle.std.proofs.lemmas.Int.{ints}
 use Rattle.geom_rect.specs.declared.rect.Rect.{Rect}
-use Rattle.geom_rect.specs.Rect.{Has, has, HasNear, count_between, width_of, area_of, grow_of}
+use Rattle.geom_rect.specs.Rect.{Has, has, count_between, width_of, area_of, grow_of}
 use Rattle.geom_rect.proofs.Points.{Has-grow_of, Has-from_true}
 use Rattle.argb_pixel.specs.Pixel.{Argb, IsPremultiplied, clear}
 use Rattle.argb_pixel.proofs.Channels.{clear_premultiplied}
@@ -12,7 +12,7 @@ use Rattle.argb_world.proofs.Rows.{column_above, column_below}
 use Rattle.comp_stack.specs.Stack.{Plane}
 use Rattle.effect_api.specs.Planes.{IsPlane, AgreeOn}
 use Rattle.effect_api.specs.Effects.{IsDrawing}
-use Rattle.fx_blur.specs.Sums.{total, column_sum, sum_over, mean_of}
+use Rattle.fx_blur.specs.Sums.{column_sum, sum_over, mean_of}
 use Rattle.fx_blur.specs.Blur.{across, window_of, blur_at, blur_extent}
 use Rattle.fx_blur.specs.Mosaic.{block_of, mosaic_at, blocks_of}
 use Rattle.fx_blur.specs.SumLaws.{total_alike, total_clear, total_premultiplied, premultiplied_more, mean_premultiplied, mean_clear}

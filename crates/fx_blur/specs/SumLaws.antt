@@ -1,7 +1,5 @@
 -- What holds of sums of pixels.
-use Rattle.std.specs.Prelude.{◌-◌}
-use Rattle.std.proofs.Common.{◌≡◌, ℕ, zero, suc, ◌+◌, ◌*◌, ◌/◌, ◌<◌, ◌≤◌, ℤ, pos, ◌+ℤ◌, refl, ap, sym, ◌∙◌, arith}
-use Rattle.std.proofs.Math.Nat.{div-eq_of_lt, div-lt_iff_lt-mul}
+use Rattle.std.proofs.Common.{◌≡◌, ℕ, zero, suc, ◌+◌, ◌*◌, ◌<◌, ◌≤◌, refl, ap, sym, ◌∙◌, arith}
 use Rattle.argb_pixel.specs.Pixel.{Argb, IsPremultiplied, clear, rounded}
 use Rattle.argb_pixel.proofs.Channels.{same_argb, clear_premultiplied}
 use Rattle.argb_pixel.proofs.Rounded.{rounded_mono, rounded_whole}

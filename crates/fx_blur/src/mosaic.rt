@@ -191,7 +191,10 @@ fn fill_clear<const MAX: u32>(
     ensures serves { ServesBand (mosaic_at size (plane_of input.now)) part.left result.low result.high into.new }
 {
     clear_row(into);
-    Band { low: y, high: y + 1 }
+    Band {
+        low: y,
+        high: y + 1,
+    }
 }
 
 // A row of blocks serves the heights of the blocks at y, which is inside the extent.

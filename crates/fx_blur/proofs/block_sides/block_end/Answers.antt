@@ -1,4 +1,4 @@
-use Rattle.std.proofs.Common.{◌≡◌, w32, w64, arith, rules}
+use Rattle.std.proofs.Common.{◌≡◌, w32, arith}
 use Rattle.std.specs.Int.RustNames.{FitsSigned}
 use Rattle.std.proofs.lemmas.Int.{ints, clamps, to_z-of_z}
 use Rattle.fx_blur.specs.Mosaic.{block_start}

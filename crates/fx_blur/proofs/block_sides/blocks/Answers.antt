@@ -1,5 +1,4 @@
-use Rattle.std.proofs.Common.{◌≡◌, Bool, true, false, sym, ap, ◌∙◌}
-use Rattle.geom_rect.specs.declared.rect.Rect.{Rect}
+use Rattle.std.proofs.Common.{◌≡◌, true, false, sym, ap, ◌∙◌}
 use Rattle.geom_rect.specs.Rect.{is_empty, meet_of}
 use Rattle.fx_blur.specs.Mosaic.{blocks_between}
 use Rattle.fx_blur.specs.Blocks.{none_meet, some_meet}

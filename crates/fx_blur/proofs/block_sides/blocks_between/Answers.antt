@@ -1,6 +1,6 @@
-use Rattle.std.proofs.Common.{◌≡◌, ℤ, pos, ◌-ℤ◌, w32, ap, ◌∙◌, arith, rules}
+use Rattle.std.proofs.Common.{◌≡◌, ℤ, pos, ◌-ℤ◌, w32, ap, ◌∙◌, rules}
 use Rattle.std.specs.Int.RustNames.{FitsSigned}
-use Rattle.std.proofs.lemmas.Int.{ints, to_z-of_z}
+use Rattle.std.proofs.lemmas.Int.{to_z-of_z}
 use Rattle.geom_rect.specs.declared.rect.Rect.{Rect}
 use Rattle.geom_rect.specs.Rect.{hull_of}
 use Rattle.fx_blur.specs.Mosaic.{block_of}
@@ -20,4 +20,4 @@ returns c =
     let far : c.block-far.result ≡ block_of c.args.size c.args.extent.now c.last_before-right.result c.last_before-bottom.result = simp to_z-of_z at c.block-far.ensures in
     c.hull.ensures ∙ ap (λ (r : Rect). hull_of r c.block-far.result) near
     ∙ ap (hull_of (block_of c.args.size c.args.extent.now c.args.met.now.left c.args.met.now.top))
-      (far ∙ ap (λ (x : ℤ). block_of c.args.size c.args.extent.now x c.last_before-bottom.result) right ∙ ap (block_of c.args.size c.args.extent.now (c.args.met.now.right -ℤ pos 1)) bottom)
+    (far ∙ ap (λ (x : ℤ). block_of c.args.size c.args.extent.now x c.last_before-bottom.result) right ∙ ap (block_of c.args.size c.args.extent.now (c.args.met.now.right -ℤ pos 1)) bottom)

@@ -1,4 +1,4 @@
-use Rattle.std.proofs.Common.{◌≡◌, ◌*◌, ◌+◌, ◌<◌, ℕ, ℤ, pos, ◌+ℤ◌, ◌-ℤ◌, w32, w64, ap, sym, subst, ◌∙◌, arith, rules, length, get_or}
+use Rattle.std.proofs.Common.{◌≡◌, ◌*◌, ◌<◌, ℕ, pos, ◌-ℤ◌, w32, w64, ap, sym, subst, ◌∙◌, arith, rules, get_or}
 use Rattle.std.specs.Int.RustNames.{FitsSigned}
 use Rattle.std.proofs.lemmas.Int.{ints, to_z-of_z}
 use Rattle.geom_rect.specs.declared.rect.Rect.{Rect}
@@ -7,7 +7,6 @@ use Rattle.argb_pixel.specs.Pixel.{clear}
 use Rattle.argb_world.specs.Picture.{at, row_of}
 use Rattle.fx_blur.specs.Sums.{mean_of}
 use Rattle.fx_blur.specs.Blur.{across}
-use Rattle.fx_blur.specs.Columns.{AreColumns}
 use Rattle.fx_blur.proofs.Adding.{AreWithin, sum_from}
 use Rattle.fx_blur.proofs.Moving.{column_within, columns_at}
 use Rattle.fx_blur.proofs.Drawn.{blur_shown}
@@ -31,9 +30,19 @@ move_down-requires g c =
     let left : c.number_below-left.result ≡ c.args.target.now.part.left -ℤ pos c.args.radius = low ∙ ap (λ (r : Rect). r.left -ℤ pos c.args.radius) c.part.ensures.value in
     let top : c.number_below-top.result ≡ c.args.y -ℤ pos c.args.radius = simp to_z-of_z at c.number_below-top.ensures in
     let sums = columns_at g.row.MAX (at c.args.input.now) c.number_below-left.result (c.args.target.now.part.left -ℤ pos c.args.radius) c.number_below-top.result (c.args.y -ℤ pos c.args.radius)
-    c.across-across.result (across c.args.radius) c.args.columns.now left top c.across-across.ensures c.requires.sums in
-    (omega arith, (c.requires.depth, ((omega (arith, ints, low, c.requires.near), omega (arith, ints, low)), ((omega (arith, ints, top, c.requires.near), omega (arith, ints, top)),
-    (omega (arith, c.across-across.ensures, c.requires.near), (c.requires.bytes, simp to_z-of_z sums))))))
+    c.across-across.result (across c.args.radius) c.args.columns.now left top c.across-across.ensures c.requires.sums in (
+      omega arith,
+      (
+        c.requires.depth,
+        (
+          (omega (arith, ints, low, c.requires.near), omega (arith, ints, low)),
+          (
+            (omega (arith, ints, top, c.requires.near), omega (arith, ints, top)),
+            (omega (arith, c.across-across.ensures, c.requires.near), (c.requires.bytes, simp to_z-of_z sums)),
+          ),
+        ),
+      ),
+    )
 
 pub returns-clause-drawn : goal.returns-clause-drawn
 returns-clause-drawn g c =

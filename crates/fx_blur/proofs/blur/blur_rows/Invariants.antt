@@ -1,6 +1,4 @@
-use Rattle.std.proofs.Common.{◌≡◌, ◌*◌, ◌+◌, pos, ◌+ℤ◌, ◌-ℤ◌, length}
-use Rattle.geom_rect.specs.Rect.{width_of}
-use Rattle.argb_pixel.specs.Packed.{pixel_size}
+use Rattle.std.proofs.Common.{◌≡◌, pos, ◌+ℤ◌, ◌-ℤ◌, length}
 use Rattle.argb_world.specs.Picture.{SameExtentAndPart, at}
 use Rattle.comp_stack.specs.Layers.{plane_of}
 use Rattle.fx_color.proofs.RowsDrawn.{AreDrawnTo}

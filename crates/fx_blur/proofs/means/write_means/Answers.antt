@@ -1,15 +1,24 @@
-use Rattle.std.proofs.Common.{◌≡◌, ℕ, ◌+◌, ◌*◌, ◌<◌, ◌≤◌, length, get_or, ap, ◌∙◌, arith}
+use Rattle.std.proofs.Common.{◌*◌, ◌≤◌, ap, ◌∙◌, arith}
 use Rattle.std.proofs.Math.Nat.{mul-pos, mul-le-mul_left}
-use Rattle.argb_pixel.specs.Pixel.{clear}
-use Rattle.fx_blur.specs.Sums.{total, mean_of}
+use Rattle.fx_blur.specs.Sums.{mean_of}
 use Rattle.fx_blur.proofs.Adding.{sum_from, square_within, written_more}
 use Rattle.fx_blur.proofs.means.write_means.Goals as goal
 
 pub mean-requires : goal.mean-requires
 mean-requires g c =
-    let few : c.args.across * c.args.across ≤ c.args.across * 257 = mul-le-mul_left c.args.across (omega (arith, c.requires.few)) in
-    (omega arith, (c.requires.depth, (mul-pos c.requires.some c.requires.some, (omega (arith, few, c.requires.few),
-    square_within g.row.MAX c.args.across c.args.columns.now c.loop-i.i c.loop-i.sum c.requires.within (omega (arith, c.requires.long, c.loop-i-test.true, c.loop-i.auto.into)) c.loop-i.invariant.sum))))
+    let few : c.args.across * c.args.across ≤ c.args.across * 257 = mul-le-mul_left c.args.across (omega (arith, c.requires.few)) in (
+      omega arith,
+      (
+        c.requires.depth,
+        (
+          mul-pos c.requires.some c.requires.some,
+          (
+            omega (arith, few, c.requires.few),
+            square_within g.row.MAX c.args.across c.args.columns.now c.loop-i.i c.loop-i.sum c.requires.within (omega (arith, c.requires.long, c.loop-i-test.true, c.loop-i.auto.into)) c.loop-i.invariant.sum,
+          ),
+        ),
+      ),
+    )
 
 pub loop-i-preserved : goal.loop-i-preserved
 loop-i-preserved g c = record {

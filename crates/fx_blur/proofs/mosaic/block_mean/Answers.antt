@@ -1,4 +1,4 @@
-use Rattle.std.proofs.Common.{◌≡◌, ℕ, ◌*◌, ◌+◌, ◌<◌, ◌≤◌, ◌-ℤ◌, w32, ap, sym, ◌∙◌, arith, rules, length}
+use Rattle.std.proofs.Common.{◌≡◌, ◌*◌, ◌<◌, ◌≤◌, ◌-ℤ◌, w32, ap, sym, ◌∙◌, arith, rules, length}
 use Rattle.std.specs.Int.RustNames.{FitsSigned}
 use Rattle.std.proofs.lemmas.Int.{to_z-of_z}
 use Rattle.std.proofs.lemmas.Nat.{mul-le}
@@ -45,9 +45,19 @@ mean-requires g c =
     let wide : c.block_columns-place.result.1 ≡ count_between (block_start c.args.size c.args.sides.low c.args.x) (block_end c.args.size c.args.sides.low c.args.sides.high c.args.x) = simp to_z-of_z at c.block_columns-place.ensures.wide in
     let is = block_wide c.args.size c.args.sides.low c.args.sides.high c.args.start (length c.args.columns.now) c.args.x c.requires.summed.some c.requires.low c.requires.high c.requires.there in
     let some : 0 < c.block_columns-place.result.1 = omega (arith, wide, is.some) in
-    let few : c.block_columns-place.result.1 * c.args.rows ≤ 1024 * 1024 = mul-le c.block_columns-place.result.1 c.args.rows 1024 1024 (omega (arith, wide, is.few, c.requires.summed.few)) c.requires.summed.short in
-    (omega arith, (c.requires.summed.depth, (mul-pos some c.requires.summed.any, (omega (arith, few),
-    block_within g.row.MAX c.args.rows c.args.columns.now c.block_columns-place.result.0 c.block_columns-place.result.1 c.sum_columns-sum.result c.requires.summed.within (omega (arith, place, wide, is.there)) c.sum_columns-sum.ensures))))
+    let few : c.block_columns-place.result.1 * c.args.rows ≤ 1024 * 1024 = mul-le c.block_columns-place.result.1 c.args.rows 1024 1024 (omega (arith, wide, is.few, c.requires.summed.few)) c.requires.summed.short in (
+      omega arith,
+      (
+        c.requires.summed.depth,
+        (
+          mul-pos some c.requires.summed.any,
+          (
+            omega (arith, few),
+            block_within g.row.MAX c.args.rows c.args.columns.now c.block_columns-place.result.0 c.block_columns-place.result.1 c.sum_columns-sum.result c.requires.summed.within (omega (arith, place, wide, is.there)) c.sum_columns-sum.ensures,
+          ),
+        ),
+      ),
+    )
 
 pub returns : goal.returns
 returns g c =

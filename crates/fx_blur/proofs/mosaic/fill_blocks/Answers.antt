@@ -59,20 +59,25 @@ write_blocks-requires g c =
     let long = block_long c.args.size c.args.input.now.extent.top c.args.input.now.extent.bottom c.args.y is in
     let sums : AreColumns g.row.MAX (at c.args.input.now) c.args.start c.block_start-top.result c.count-rows.result c.sum_rows.new.columns = simp to_z-of_z at c.sum_rows.ensures in
     let there : (u : ℤ) → c.args.part.left ≤ℤ u → u <ℤ c.args.part.right → c.extent-extent.result.left ≤ℤ u → u <ℤ c.extent-extent.result.right
-      → HasBlock c.args.size c.extent-extent.result.left c.extent-extent.result.right c.args.start (length c.sum_rows.new.columns) u = λ u near far first last.
+    → HasBlock c.args.size c.extent-extent.result.left c.extent-extent.result.right c.args.start (length c.sum_rows.new.columns) u = λ u near far first last.
     let left = ap (λ (r : Rect). r.left) c.extent-extent.ensures in
     let right = ap (λ (r : Rect). r.right) c.extent-extent.ensures in
     subst (λ (r : Rect). HasBlock c.args.size r.left r.right c.args.start (length c.sum_rows.new.columns) u) (sym c.extent-extent.ensures)
     (subst (λ n. HasBlock c.args.size c.args.input.now.extent.left c.args.input.now.extent.right c.args.start n u) (sym c.sum_rows.auto.columns)
-      (c.requires.there u (near, far, c.requires.height.0, c.requires.height.1) (omega (arith, ints, left, first), omega (arith, ints, right, last), c.requires.inside.0, c.requires.inside.1))) in
-    (omega arith, (record {
-      depth = c.requires.depth;
-      some = c.requires.some;
-      few = c.requires.few;
-      any = omega (arith, rows, long.0);
-      short = omega (arith, rows, long.1, c.requires.few);
-      within = column_within g.row.MAX (at c.args.input.now) c.args.start c.block_start-top.result c.count-rows.result c.sum_rows.new.columns sums;
-    }, (c.requires.room, simp to_z-of_z there)))
+    (c.requires.there u (near, far, c.requires.height.0, c.requires.height.1) (omega (arith, ints, left, first), omega (arith, ints, right, last), c.requires.inside.0, c.requires.inside.1))) in (
+      omega arith,
+      (
+        record {
+          depth = c.requires.depth;
+          some = c.requires.some;
+          few = c.requires.few;
+          any = omega (arith, rows, long.0);
+          short = omega (arith, rows, long.1, c.requires.few);
+          within = column_within g.row.MAX (at c.args.input.now) c.args.start c.block_start-top.result c.count-rows.result c.sum_rows.new.columns sums;
+        },
+        (c.requires.room, simp to_z-of_z there),
+      ),
+    )
 
 pub returns-clause-low : goal.returns-clause-low
 returns-clause-low g c =
@@ -147,5 +152,5 @@ returns-clause-serves g c =
     ∙ ap (λ (r : Rect). block_mean c.args.size r.left r.right c.args.start c.count-rows.result c.sum_rows.new.columns (c.args.part.left +ℤ pos i)) c.extent-extent.ensures
     ∙ ap (λ n. block_mean c.args.size c.args.input.now.extent.left c.args.input.now.extent.right c.args.start n c.sum_rows.new.columns (c.args.part.left +ℤ pos i)) rows
     ∙ mean_is_mosaic g.row.MAX c.args.size c.args.input.now c.args.start c.args.y c.sum_rows.new.columns c.requires.some c.requires.inside placed (c.args.part.left +ℤ pos i) v
-      (omega (arith, ints, top, first)) (omega (arith, ints, bottom, last))
-      (λ h. subst (λ n. HasBlock c.args.size c.args.input.now.extent.left c.args.input.now.extent.right c.args.start n (c.args.part.left +ℤ pos i)) (sym c.sum_rows.auto.columns) (c.requires.there (c.args.part.left +ℤ pos i) column h))
+    (omega (arith, ints, top, first)) (omega (arith, ints, bottom, last))
+    (λ h. subst (λ n. HasBlock c.args.size c.args.input.now.extent.left c.args.input.now.extent.right c.args.start n (c.args.part.left +ℤ pos i)) (sym c.sum_rows.auto.columns) (c.requires.there (c.args.part.left +ℤ pos i) column h))

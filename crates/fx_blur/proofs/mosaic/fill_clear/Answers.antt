@@ -1,6 +1,6 @@
 use Rattle.std.proofs.Common.{◌≡◌, pos, ◌+ℤ◌, w32, ap, sym, ◌∙◌, arith}
 use Rattle.std.specs.Int.RustNames.{FitsSigned}
-use Rattle.std.proofs.lemmas.Int.{ints, to_z-of_z}
+use Rattle.std.proofs.lemmas.Int.{ints}
 use Rattle.comp_stack.specs.Layers.{plane_of}
 use Rattle.fx_blur.specs.Mosaic.{mosaic_at}
 use Rattle.fx_blur.proofs.BlockMeans.{mosaic_off_row}

@@ -19,13 +19,29 @@ serve-served-requires g c =
     let part_is = c.part-part.ensures.value in
     let height : HasRow c.part-part.result c.args.y = subst (λ (r : Rect). HasRow r c.args.y) (sym part_is) c.requires.height in
     let there : (u : ℤ) → Has c.part-part.result u c.args.y → Has c.args.input.now.extent u c.args.y
-      → HasBlock c.args.size c.args.input.now.extent.left c.args.input.now.extent.right c.args.start (length c.args.columns.now) u =
+    → HasBlock c.args.size c.args.input.now.extent.left c.args.input.now.extent.right c.args.start (length c.args.columns.now) u =
     subst (λ (r : Rect). (u : ℤ) → Has r u c.args.y → Has c.args.input.now.extent u c.args.y
-      → HasBlock c.args.size c.args.input.now.extent.left c.args.input.now.extent.right c.args.start (length c.args.columns.now) u) (sym part_is) c.requires.there in
+    → HasBlock c.args.size c.args.input.now.extent.left c.args.input.now.extent.right c.args.start (length c.args.columns.now) u) (sym part_is) c.requires.there in
     let serves : ServesBand (mosaic_at c.args.size (plane_of c.args.input.now)) c.part-part.result.left c.args.band.low c.args.band.high c.args.into.now =
-    subst (λ (r : Rect). ServesBand (mosaic_at c.args.size (plane_of c.args.input.now)) r.left c.args.band.low c.args.band.high c.args.into.now) (sym part_is) c.requires.serves in
-    (omega arith, (omega arith, (c.requires.depth, (c.requires.some, (c.requires.few, (simp to_z-of_z height,
-    (c.requires.bytes, (c.requires.room ∙ ap width_of (sym part_is), (simp to_z-of_z there, serves)))))))))
+    subst (λ (r : Rect). ServesBand (mosaic_at c.args.size (plane_of c.args.input.now)) r.left c.args.band.low c.args.band.high c.args.into.now) (sym part_is) c.requires.serves in (
+      omega arith,
+      (
+        omega arith,
+        (
+          c.requires.depth,
+          (
+            c.requires.some,
+            (
+              c.requires.few,
+              (
+                simp to_z-of_z height,
+                (c.requires.bytes, (c.requires.room ∙ ap width_of (sym part_is), (simp to_z-of_z there, serves))),
+              ),
+            ),
+          ),
+        ),
+      ),
+    )
 
 pub returns-clause-serves : goal.returns-clause-serves
 returns-clause-serves g c =

@@ -1,4 +1,4 @@
-use Rattle.std.proofs.Common.{◌≡◌, ◌+◌, ◌*◌, ℤ, pos, ◌+ℤ◌, sym, subst, ap, ◌∙◌, refl, arith, rules, w32, length}
+use Rattle.std.proofs.Common.{◌≡◌, ◌*◌, ℤ, pos, ◌+ℤ◌, sym, subst, ap, ◌∙◌, refl, arith, rules, w32, length}
 use Rattle.std.specs.Int.RustNames.{FitsSigned}
 use Rattle.std.proofs.lemmas.Int.{ints, to_z-of_z}
 use Rattle.geom_rect.specs.declared.rect.Rect.{Rect}
@@ -36,7 +36,7 @@ mosaic_row-band-requires g c =
     let bytes : length c.rows.row ≡ pixel_size g.row.MAX * length c.rows.columns = c.rows.invariant.bytes ∙ c.requires.bytes ∙ ap (λ n. pixel_size g.row.MAX * n) (sym c.rows.invariant.long) in
     let pixels : length c.rows.into ≡ width_of c.rows.target.part = c.rows.invariant.pixels ∙ c.requires.room ∙ ap width_of (sym part_is) in
     let blocks : (u : ℤ) → Has c.rows.target.part u c.number_at-y.result → Has c.args.input.now.extent u c.number_at-y.result
-      → HasBlock c.args.size c.args.input.now.extent.left c.args.input.now.extent.right c.args.start (length c.rows.columns) u = λ u h k.
+    → HasBlock c.args.size c.args.input.now.extent.left c.args.input.now.extent.right c.args.start (length c.rows.columns) u = λ u h k.
     subst (λ n. HasBlock c.args.size c.args.input.now.extent.left c.args.input.now.extent.right c.args.start n u) (sym c.rows.invariant.long)
     (c.requires.there u c.number_at-y.result (subst (λ (r : Rect). Has r u c.number_at-y.result) part_is h) k) in
     let serves : ServesBand (mosaic_at c.args.size (plane_of c.args.input.now)) c.rows.target.part.left c.rows.band.low c.rows.band.high c.rows.into =

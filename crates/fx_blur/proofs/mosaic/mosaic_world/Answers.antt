@@ -17,7 +17,7 @@ mosaic_rows-requires g c =
     let long : length c.deref_mut.result.now ≡ length c.in_ok-columns.columns.items = ap length c.deref_mut.ensures.value in
     let wide : length c.deref_mut.result.now ≡ width_of c.blocks-all.result = omega (arith, long, c.in_ok-columns.ensures) in
     let there : (u v : ℤ) → Has c.args.target.now.part u v → Has c.args.input.now.extent u v
-      → HasBlock c.args.size c.args.input.now.extent.left c.args.input.now.extent.right c.blocks-all.result.left (length c.deref_mut.result.now) u =
+    → HasBlock c.args.size c.args.input.now.extent.left c.args.input.now.extent.right c.blocks-all.result.left (length c.deref_mut.result.now) u =
     λ u v. blocks_hold c.args.size c.args.input.now.extent c.args.target.now.part c.blocks-all.result (length c.deref_mut.result.now) u v c.requires.some all wide in
     let bytes : length c.deref_mut-2.result.now ≡ pixel_size g.row.MAX * length c.deref_mut.result.now = search rules in
     let room : length c.deref_mut-3.result.now ≡ width_of c.args.target.now.part = search rules in

@@ -1,7 +1,6 @@
-use Rattle.std.proofs.Common.{◌≡◌, ℤ, ◌≤ℤ◌, ◌<ℤ◌, w32, rules}
+use Rattle.std.proofs.Common.{◌≤ℤ◌, ◌<ℤ◌, w32, rules}
 use Rattle.std.specs.Int.RustNames.{FitsSigned}
 use Rattle.std.proofs.lemmas.Int.{to_z-of_z}
-use Rattle.fx_blur.specs.Columns.{block_mean}
 use Rattle.fx_blur.proofs.mosaic.move_stripe.Goals as goal
 
 pub returns-clause-pixel : goal.returns-clause-pixel

@@ -1,8 +1,8 @@
-use Rattle.std.proofs.Common.{◌≡◌, ℤ, pos, ◌+ℤ◌, ◌≤ℤ◌, ◌<ℤ◌, w32, ap, sym, ◌∙◌, arith, rules, length}
+use Rattle.std.proofs.Common.{◌≡◌, ◌≤ℤ◌, ◌<ℤ◌, w32, ap, sym, ◌∙◌, arith, rules}
 use Rattle.std.specs.Int.RustNames.{FitsSigned}
 use Rattle.std.proofs.lemmas.Int.{ints, to_z-of_z}
 use Rattle.fx_blur.specs.Mosaic.{block_start, block_end}
-use Rattle.fx_blur.specs.Columns.{HasBlock, block_mean}
+use Rattle.fx_blur.specs.Columns.{block_mean}
 use Rattle.fx_blur.specs.Blocks.{around}
 use Rattle.fx_blur.proofs.BlockMeans.{mean_alike, mean_outside}
 use Rattle.fx_blur.proofs.mosaic.stripe_at.Goals as goal
