@@ -1,0 +1,89 @@
+ghost use Rattle.std.specs.Prelude.{◌≡◌, ◌≤◌, ◌<◌, ◌+ℤ◌, pos, unsigned_abs, length, if◌then◌else◌};
+ghost use Rattle.geom_rect.specs.Rect.{has};
+ghost use Rattle.argb_pixel.specs.Depth.{IsDepth};
+ghost use Rattle.argb_pixel.specs.Pixel.{clear};
+ghost use Rattle.argb_world.specs.Picture.{at, span_of};
+ghost use Rattle.comp_stack.specs.Layers.{plane_of};
+ghost use Rattle.effect_api.specs.Planes.{IsSide};
+ghost use Rattle.fx_spatial.specs.Rows.{drawn_span, IsNearRow};
+ghost use Rattle.fx_spatial.specs.Displace.{moved, displaced_at};
+
+use crate::rows::DrawRow;
+use argb_pixel::{Pixel, Transparent};
+use argb_world::World;
+
+/// A picture of which each point shows one at most `max_x` and `max_y` away, as the map says. Both are within
+/// -1024..=1024.
+#[derive(Drop)]
+pub(crate) struct Displaced<'a, const MAX: u32> {
+    pub input: &'a World<MAX>,
+    pub map: &'a World<MAX>,
+    pub max_x: i32,
+    pub max_y: i32,
+    pub ghost across: { unsigned_abs max_x ≤ 1024 },
+    pub ghost down: { unsigned_abs max_y ≤ 1024 },
+}
+
+// How far a colour of the map's pixel moves a point.
+fn moved<const MAX: u32>(furthest: i32, colour: u32, alpha: u32) -> i32
+    requires depth { IsDepth MAX }
+    requires furthest { unsigned_abs furthest ≤ 1024 }
+    requires colour { colour ≤ alpha }
+    requires alpha { alpha ≤ MAX }
+    ensures value { result ≡ moved MAX furthest colour alpha }
+    ensures within { unsigned_abs result ≤ 1024 }
+{
+    (furthest * (2 * colour as i32 - alpha as i32)).div_euclid(MAX as i32)
+}
+
+// The column that is `k` to the right of another.
+fn column(x: i32, k: usize) -> i32
+    requires across { IsSide x }
+    requires end { IsSide (x +ℤ pos k) }
+    ensures { result ≡ x +ℤ pos k }
+{
+    (x as i64 + k as i64) as i32
+}
+
+// What is drawn at a point, for the map's pixel there.
+fn displace_point<const MAX: u32>(rule: &Displaced<MAX>, x: i32, y: i32, pixel: Pixel<MAX>) -> Pixel<MAX>
+    requires depth { IsDepth MAX }
+    requires across { IsSide x }
+    requires down { IsSide y }
+    ensures { result ≡ if has rule.now.input.now.extent x y
+        then at rule.now.input.now (x +ℤ moved MAX rule.now.max_x pixel.entry.r pixel.entry.a) (y +ℤ moved MAX rule.now.max_y pixel.entry.g pixel.entry.a)
+        else clear }
+{
+    if rule.input.extent().has(x, y) {
+        let across = moved::<MAX>(rule.max_x, pixel.r(), pixel.a());
+        let down = moved::<MAX>(rule.max_y, pixel.g(), pixel.a());
+        rule.input.at(x + across, y + down)
+    } else {
+        Pixel::CLEAR
+    }
+}
+
+// The row of points from `(x, y)` on is drawn over the map's pixels there.
+fn displace_each<const MAX: u32>(rule: &Displaced<MAX>, x: i32, y: i32, into: &mut [Pixel<MAX>])
+    requires depth { IsDepth MAX }
+    requires near { IsNearRow x y (length into.old) }
+    requires map { into.old ≡ span_of rule.now.map.now x y (length into.old) }
+    ensures { into.new ≡ drawn_span (displaced_at MAX rule.now.max_x rule.now.max_y (plane_of rule.now.input.now) (plane_of rule.now.map.now)) x y (length into.old) }
+{
+    'points: for k in 0..into.len() {
+        into[k] = displace_point(rule, column(x, k), y, into[k]);
+    }
+}
+
+impl<'a, const MAX: u32> DrawRow<MAX> for Displaced<'a, MAX> {
+    ghost drawing = { λ rule. displaced_at MAX rule.max_x rule.max_y (plane_of rule.input.now) (plane_of rule.map.now) };
+
+    fn draw_row(&self, x: i32, y: i32, _spare: &mut [Pixel<MAX>], into: &mut [Pixel<MAX>])
+        requires depth { IsDepth MAX }
+        requires near { IsNearRow x y (length into.old) }
+        ensures { into.new ≡ drawn_span (displaced_at MAX self.now.max_x self.now.max_y (plane_of self.now.input.now) (plane_of self.now.map.now)) x y (length into.old) }
+    {
+        self.map.read_span(x as i64, y as i64, into);
+        displace_each(self, x, y, into);
+    }
+}
