@@ -6,3 +6,5 @@ pub mod Spatial
 pub mod Near
 pub mod Moved
 pub mod Laws
+pub mod Asked
+pub mod Wrapping
