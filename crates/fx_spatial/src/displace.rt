@@ -1,5 +1,6 @@
-ghost use Rattle.std.specs.Prelude.{◌≡◌, ◌≤◌, ◌<◌, ◌+ℤ◌, pos, unsigned_abs, length, if◌then◌else◌};
+ghost use Rattle.std.specs.Prelude.{◌≡◌, ◌≤◌, ◌<◌, ◌*◌, ◌+ℤ◌, ◌-ℤ◌, ◌*ℤ◌, pos, unsigned_abs, length, if◌then◌else◌};
 ghost use Rattle.geom_rect.specs.Rect.{has};
+ghost use Rattle.rational_time.specs.Times.{floor_of};
 ghost use Rattle.argb_pixel.specs.Depth.{IsDepth};
 ghost use Rattle.argb_pixel.specs.Pixel.{clear};
 ghost use Rattle.argb_world.specs.Picture.{at, span_of};
@@ -11,6 +12,7 @@ ghost use Rattle.fx_spatial.specs.Displace.{moved, displaced_at};
 use crate::rows::DrawRow;
 use argb_pixel::{Pixel, Transparent};
 use argb_world::World;
+use geom_rect::Rect;
 
 /// A picture of which each point shows one at most `max_x` and `max_y` away, as the map says. Both are within
 /// -1024..=1024.
@@ -24,6 +26,32 @@ pub(crate) struct Displaced<'a, const MAX: u32> {
     pub ghost down: { unsigned_abs max_y ≤ 1024 },
 }
 
+// Twice a colour less alpha: how far the colour is from half of it.
+fn tilt(colour: u32, alpha: u32) -> i32
+    requires colour { colour ≤ alpha }
+    requires alpha { alpha ≤ 32768 }
+    ensures { result ≡ pos (2 * colour) -ℤ pos alpha }
+{
+    2 * colour as i32 - alpha as i32
+}
+
+// The same, times a distance.
+fn product(furthest: i32, tilt: i32) -> i32
+    requires furthest { unsigned_abs furthest ≤ 1024 }
+    requires tilt { unsigned_abs tilt ≤ 32768 }
+    ensures { result ≡ furthest *ℤ tilt }
+{
+    furthest * tilt
+}
+
+// The part of a depth, rounded down.
+fn part_of<const MAX: u32>(z: i32) -> i32
+    requires { IsDepth MAX }
+    ensures { result ≡ floor_of z (pos MAX) }
+{
+    z.div_euclid(MAX as i32)
+}
+
 // How far a colour of the map's pixel moves a point.
 fn moved<const MAX: u32>(furthest: i32, colour: u32, alpha: u32) -> i32
     requires depth { IsDepth MAX }
@@ -33,7 +61,23 @@ fn moved<const MAX: u32>(furthest: i32, colour: u32, alpha: u32) -> i32
     ensures value { result ≡ moved MAX furthest colour alpha }
     ensures within { unsigned_abs result ≤ 1024 }
 {
-    (furthest * (2 * colour as i32 - alpha as i32)).div_euclid(MAX as i32)
+    part_of::<MAX>(product(furthest, tilt(colour, alpha)))
+}
+
+// Whether a point is in a rectangle.
+fn is_inside(rect: &Rect, x: i32, y: i32) -> bool
+    ensures { result ≡ has rect.now x y }
+{
+    rect.has(x, y)
+}
+
+// A number moved by at most 1024.
+fn moved_by(x: i32, by: i32) -> i32
+    requires near { IsSide x }
+    requires few { unsigned_abs by ≤ 1024 }
+    ensures { result ≡ x +ℤ by }
+{
+    x + by
 }
 
 // The column that is `k` to the right of another.
@@ -54,10 +98,10 @@ fn displace_point<const MAX: u32>(rule: &Displaced<MAX>, x: i32, y: i32, pixel: 
         then at rule.now.input.now (x +ℤ moved MAX rule.now.max_x pixel.entry.r pixel.entry.a) (y +ℤ moved MAX rule.now.max_y pixel.entry.g pixel.entry.a)
         else clear }
 {
-    if rule.input.extent().has(x, y) {
+    if is_inside(&rule.input.extent(), x, y) {
         let across = moved::<MAX>(rule.max_x, pixel.r(), pixel.a());
         let down = moved::<MAX>(rule.max_y, pixel.g(), pixel.a());
-        rule.input.at(x + across, y + down)
+        rule.input.at(moved_by(x, across), moved_by(y, down))
     } else {
         Pixel::CLEAR
     }

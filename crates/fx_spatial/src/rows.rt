@@ -1,4 +1,4 @@
-ghost use Rattle.std.specs.Prelude.{◌≡◌, ◌<◌, ℤ, pos, ◌+ℤ◌, length, IfOk, OnOk};
+ghost use Rattle.std.specs.Prelude.{◌≡◌, ◌<◌, ℤ, pos, ◌+ℤ◌, ◌-ℤ◌, length, IfOk, OnOk};
 ghost use Rattle.geom_rect.specs.Rect.{Has, count_between, width_of};
 ghost use Rattle.argb_pixel.specs.Depth.{IsDepth};
 ghost use Rattle.argb_pixel.specs.Pixel.{Argb};
@@ -25,8 +25,15 @@ pub(crate) trait DrawRow<const MAX: u32> {
         ensures { into.new ≡ drawn_span (drawing self.now) x y (length into.old) };
 }
 
-// How many whole numbers there are from `low`, inclusive, to `high`, exclusive.
-fn count(low: i32, high: i32) -> u32
+/// A number less another.
+pub(crate) fn less(x: i32, by: i32) -> i64
+    ensures { result ≡ x -ℤ by }
+{
+    x as i64 - by as i64
+}
+
+/// How many whole numbers there are from `low`, inclusive, to `high`, exclusive.
+pub(crate) fn count(low: i32, high: i32) -> u32
     ensures { result ≡ count_between low high }
 {
     if low < high {

@@ -5,7 +5,7 @@ ghost use Rattle.comp_stack.specs.Layers.{plane_of};
 ghost use Rattle.fx_spatial.specs.Rows.{drawn_span, IsNearRow};
 ghost use Rattle.fx_spatial.specs.Shadow.{shadow_of, shadowed_at};
 
-use crate::rows::DrawRow;
+use crate::rows::{DrawRow, less};
 use argb_pixel::Pixel;
 use argb_world::World;
 use fx_color::{Recolor, recolor_each};
@@ -71,8 +71,7 @@ impl<'a, const MAX: u32> DrawRow<MAX> for Shadowed<'a, MAX> {
         ensures { into.new ≡ drawn_span (shadowed_at MAX self.now.dx self.now.dy
             (shadow_of self.now.cast.opacity self.now.cast.red self.now.cast.green self.now.cast.blue) (plane_of self.now.input.now)) x y (length into.old) }
     {
-        self.input
-            .read_span(x as i64 - self.dx as i64, y as i64 - self.dy as i64, into);
+        self.input.read_span(less(x, self.dx), less(y, self.dy), into);
         recolor_each(&self.cast, into);
         self.input.read_span(x as i64, y as i64, spare);
         blend_row(Mode::Normal, spare, into);
