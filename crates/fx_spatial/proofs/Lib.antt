@@ -1,2 +1,3 @@
 pub mod Drawn
 pub mod Answered
+pub mod Runs

@@ -1,5 +1,5 @@
 -- What is drawn along a row of points.
-use Rattle.std.specs.Prelude.{ℕ, ℤ, pos, ◌+ℤ◌, ◌≤ℤ◌, List, map}
+use Rattle.std.specs.Prelude.{ℕ, ℤ, pos, neg_ℤ, ◌+ℤ◌, ◌≤ℤ◌, List, map}
 use Rattle.std.specs.List.{range_with_len}
 use Rattle.argb_pixel.specs.Pixel.{Argb}
 use Rattle.effect_api.specs.Planes.{IsSide}
@@ -13,3 +13,7 @@ pub record IsNearRow (x y : ℤ) (n : ℕ) : Type 0 where
   pub across : IsSide x
   pub down : IsSide y
   pub end : (x +ℤ pos n) ≤ℤ pos 100000
+
+-- no further from zero than two columns of rectangles can be apart
+abbrev pub IsWide : ℤ → Type 0
+IsWide z = (neg_ℤ (pos 4294967296) ≤ℤ z) × (z ≤ℤ pos 4294967296)

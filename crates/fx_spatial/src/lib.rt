@@ -2,26 +2,16 @@
 #![tactic(auto)]
 
 mod displace;
+mod draw;
 mod kind;
+mod offset;
 mod params;
+mod pre_render;
 mod rows;
 mod schemas;
 mod shadow;
 
+pub use draw::draw_spatial;
 pub use kind::SpatialKind;
+pub use pre_render::{pre_render_spatial, spatial_wants};
 pub use schemas::{spatial_kind, spatial_schemas};
-
-use argb_world::World;
-use host_io::Memory;
-use std::alloc::Global;
-ghost use Rattle.argb_pixel.specs.Depth.{IsDepth};
-ghost use Rattle.effect_api.specs.Planes.{HasSides};
-/// Uses.
-pub fn one<const MAX: u32>(alloc: Global, input: &World<MAX>, map: &World<MAX>, target: &mut World<MAX>) -> Result<(), Memory>
-    requires depth { IsDepth MAX }
-    requires near { HasSides target.old.part }
-{
-    let cast = shadow::Cast { opacity: 1, red: 2, green: 3, blue: 4 };
-    rows::draw_rows(alloc, &shadow::Shadowed { input, dx: 3, dy: 4, cast }, target)?;
-    rows::draw_rows(alloc, &displace::Displaced { input, map, max_x: 3, max_y: 4 }, target)
-}

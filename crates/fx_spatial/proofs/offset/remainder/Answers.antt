@@ -1,0 +1,7 @@
+use Rattle.std.proofs.Common.{rules, ◌<◌, arith, w64}
+use Rattle.std.specs.Prelude.{unsigned_abs}
+use Rattle.std.proofs.lemmas.Int.{ints}
+use Rattle.fx_spatial.proofs.offset.remainder.Goals as goal
+
+pub returns-clause-within : goal.returns-clause-within
+returns-clause-within c = omega (arith, ints, c.rem_euclid.ensures.upper_bound)
