@@ -34,8 +34,8 @@ use Rattle.fx_spatial.specs.declared.kind.SpatialKind.TheVariants.{Offset, BoxBl
 use Rattle.fx_spatial.specs.Offset.{wrapped, offset_at}
 use Rattle.fx_spatial.specs.Shadow.{shadow_of, shadowed_at, shadow_bounds, shadow_need}
 use Rattle.fx_spatial.specs.Displace.{moved, displaced_at, reach_of, displace_need}
-use Rattle.fx_spatial.specs.Spatial.{spatial_schema, spatial_schemas, spatial_wants, want_now, bounds_over, spatial_bounds, need_over, spatial_need, cast_by, spatial_draws, blur_schema, mosaic_schema, shadow_schema, displace_schema}
-use Rattle.fx_spatial.specs.Near.{cover_first, cover_second, cover_none, grow_none, near_itself, near_grown, near_moved}
+use Rattle.fx_spatial.specs.Spatial.{spatial_schema, spatial_schemas, spatial_wants, want_now, bounds_over, spatial_bounds, need_over, spatial_need, cast_by, spatial_draws, offset_schema, blur_schema, mosaic_schema, shadow_schema, displace_schema}
+use Rattle.fx_spatial.specs.Near.{IsFar, IsShare, cover_first, cover_second, cover_none, grow_none, near_itself, near_grown, near_moved}
 use Rattle.fx_spatial.specs.Moved.{abs_within, within_abs, moved_within, wrapped_within}
 
 pub spatial_schemas_are : AreSchemas spatial_schemas
@@ -67,9 +67,36 @@ size_some fx at fits = part_some (number_of fx 0 at) (number_within mosaic_schem
 pub size_within : (fx : Use) (at : Moment) → FitsSchema mosaic_schema fx → amount_of fx 0 at ≤ 1024
 size_within fx at fits = part_within (number_of fx 0 at) 1024 (number_within mosaic_schema fx at 0 fits).1
 
--- at most so far to either side
-abbrev pub IsFar : ℕ → ℤ → Type 0
-IsFar n z = (neg_ℤ (pos n) ≤ℤ z) × (z ≤ℤ pos n)
+-- the same as ranges of numbers
+pub radius_range : (fx : Use) (at : Moment) → FitsSchema blur_schema fx → (pos 0 ≤ℤ number_of fx 0 at) × (number_of fx 0 at ≤ℤ pos 128)
+radius_range fx at fits = let h = number_within blur_schema fx at 0 fits in (omega (arith, ints, h.0), omega (arith, ints, h.1))
+
+pub size_range : (fx : Use) (at : Moment) → FitsSchema mosaic_schema fx → (pos 1 ≤ℤ number_of fx 0 at) × (number_of fx 0 at ≤ℤ pos 1024)
+size_range fx at fits = let h = number_within mosaic_schema fx at 0 fits in (omega (arith, ints, h.0), omega (arith, ints, h.1))
+
+pub offset_right : (fx : Use) (at : Moment) → FitsSchema offset_schema fx → IsFar 32768 (number_of fx 0 at)
+offset_right fx at fits = let h = number_within offset_schema fx at 0 fits in (omega (arith, ints, h.0), omega (arith, ints, h.1))
+
+pub offset_down : (fx : Use) (at : Moment) → FitsSchema offset_schema fx → IsFar 32768 (number_of fx 1 at)
+offset_down fx at fits = let h = number_within offset_schema fx at 1 fits in (omega (arith, ints, h.0), omega (arith, ints, h.1))
+
+pub displace_right : (fx : Use) (at : Moment) → FitsSchema displace_schema fx → IsFar 1024 (number_of fx 0 at)
+displace_right fx at fits = let h = number_within displace_schema fx at 0 fits in (omega (arith, ints, h.0), omega (arith, ints, h.1))
+
+pub displace_down : (fx : Use) (at : Moment) → FitsSchema displace_schema fx → IsFar 1024 (number_of fx 1 at)
+displace_down fx at fits = let h = number_within displace_schema fx at 1 fits in (omega (arith, ints, h.0), omega (arith, ints, h.1))
+
+pub opacity_range : (fx : Use) (at : Moment) → FitsSchema shadow_schema fx → IsShare (number_of fx 2 at)
+opacity_range fx at fits = let h = number_within shadow_schema fx at 2 fits in (omega (arith, ints, h.0), omega (arith, ints, h.1))
+
+pub red_range : (fx : Use) (at : Moment) → FitsSchema shadow_schema fx → IsShare (number_of fx 3 at)
+red_range fx at fits = let h = number_within shadow_schema fx at 3 fits in (omega (arith, ints, h.0), omega (arith, ints, h.1))
+
+pub green_range : (fx : Use) (at : Moment) → FitsSchema shadow_schema fx → IsShare (number_of fx 4 at)
+green_range fx at fits = let h = number_within shadow_schema fx at 4 fits in (omega (arith, ints, h.0), omega (arith, ints, h.1))
+
+pub blue_range : (fx : Use) (at : Moment) → FitsSchema shadow_schema fx → IsShare (number_of fx 5 at)
+blue_range fx at fits = let h = number_within shadow_schema fx at 5 fits in (omega (arith, ints, h.0), omega (arith, ints, h.1))
 
 pub right_within : (fx : Use) (at : Moment) → FitsSchema shadow_schema fx → IsFar 1024 (number_of fx 0 at)
 right_within fx at fits = let h = number_within shadow_schema fx at 0 fits in (omega (arith, ints, h.0), omega (arith, ints, h.1))
@@ -187,11 +214,10 @@ drawing_over most Offset fx at planes fits depth is =
 drawing_over most BoxBlur fx at planes fits depth is = blur_drawing most (amount_of fx 0 at) (plane_at planes 0) is
 drawing_over most Mosaic fx at planes fits depth is = mosaic_drawing most (amount_of fx 0 at) (plane_at planes 0) (size_some fx at fits) is
 drawing_over most DropShadow fx at planes fits depth is =
-    let share = λ (i : ℕ). number_within shadow_schema fx at i fits in
-    let o = share_within fx at 2 (share 2).1 in
-    let r = share_within fx at 3 (share 3).1 in
-    let g = share_within fx at 4 (share 4).1 in
-    let b = share_within fx at 5 (share 5).1 in
+    let o = share_within fx at 2 (opacity_range fx at fits).1 in
+    let r = share_within fx at 3 (red_range fx at fits).1 in
+    let g = share_within fx at 4 (green_range fx at fits).1 in
+    let b = share_within fx at 5 (blue_range fx at fits).1 in
     shadow_drawing most (number_of fx 0 at) (number_of fx 1 at) (cast_by fx at) (plane_at planes 0) depth is
     (cast_keeps most (amount_of fx 2 at) (amount_of fx 3 at) (amount_of fx 4 at) (amount_of fx 5 at) o r g b)
     (cast_clear (amount_of fx 2 at) (amount_of fx 3 at) (amount_of fx 4 at) (amount_of fx 5 at) o r g b)

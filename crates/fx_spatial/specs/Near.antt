@@ -5,6 +5,14 @@ use Rattle.geom_rect.specs.declared.rect.Rect.{Rect}
 use Rattle.geom_rect.specs.Rect.{Has, HasNear, IsWithin, is_empty, origin, hull_of, cover_of, shift_of, grow_of}
 use Rattle.geom_rect.proofs.Points.{no_point_from_true, empty_within, within_itself, within-hull_left, within-hull_right, hull-within, room_from_false, near_corner, grown, Has-grow_of}
 
+-- at most so far to either side
+abbrev pub IsFar : ℕ → ℤ → Type 0
+IsFar n z = (neg_ℤ (pos n) ≤ℤ z) × (z ≤ℤ pos n)
+
+-- from 0 to 10000
+abbrev pub IsShare : ℤ → Type 0
+IsShare z = (pos 0 ≤ℤ z) × (z ≤ℤ pos 10000)
+
 differ : true ≡ false → ⊥
 differ e = cc
 

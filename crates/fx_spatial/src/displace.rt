@@ -1,4 +1,4 @@
-ghost use Rattle.std.specs.Prelude.{◌≡◌, ◌≤◌, ◌<◌, ◌*◌, ◌+ℤ◌, ◌-ℤ◌, ◌*ℤ◌, pos, unsigned_abs, length, if◌then◌else◌};
+ghost use Rattle.std.specs.Prelude.{◌≡◌, ◌≤◌, ◌<◌, ◌*◌, ◌+ℤ◌, ◌-ℤ◌, ◌*ℤ◌, pos, length, if◌then◌else◌};
 ghost use Rattle.geom_rect.specs.Rect.{has};
 ghost use Rattle.rational_time.specs.Times.{floor_of};
 ghost use Rattle.argb_pixel.specs.Depth.{IsDepth};
@@ -7,6 +7,7 @@ ghost use Rattle.argb_world.specs.Picture.{at, span_of};
 ghost use Rattle.comp_stack.specs.Layers.{plane_of};
 ghost use Rattle.effect_api.specs.Planes.{IsSide};
 ghost use Rattle.fx_spatial.specs.Rows.{drawn_span, IsNearRow};
+ghost use Rattle.fx_spatial.specs.Near.{IsFar};
 ghost use Rattle.fx_spatial.specs.Displace.{moved, displaced_at};
 
 use crate::rows::DrawRow;
@@ -22,8 +23,8 @@ pub(crate) struct Displaced<'a, const MAX: u32> {
     pub map: &'a World<MAX>,
     pub max_x: i32,
     pub max_y: i32,
-    pub ghost across: { unsigned_abs max_x ≤ 1024 },
-    pub ghost down: { unsigned_abs max_y ≤ 1024 },
+    pub ghost across: { IsFar 1024 max_x },
+    pub ghost down: { IsFar 1024 max_y },
 }
 
 // Twice a colour less alpha: how far the colour is from half of it.
@@ -37,8 +38,8 @@ fn tilt(colour: u32, alpha: u32) -> i32
 
 // The same, times a distance.
 fn product(furthest: i32, tilt: i32) -> i32
-    requires furthest { unsigned_abs furthest ≤ 1024 }
-    requires tilt { unsigned_abs tilt ≤ 32768 }
+    requires furthest { IsFar 1024 furthest }
+    requires tilt { IsFar 32768 tilt }
     ensures { result ≡ furthest *ℤ tilt }
 {
     furthest * tilt
@@ -55,11 +56,11 @@ fn part_of<const MAX: u32>(z: i32) -> i32
 // How far a colour of the map's pixel moves a point.
 fn moved<const MAX: u32>(furthest: i32, colour: u32, alpha: u32) -> i32
     requires depth { IsDepth MAX }
-    requires furthest { unsigned_abs furthest ≤ 1024 }
+    requires furthest { IsFar 1024 furthest }
     requires colour { colour ≤ alpha }
     requires alpha { alpha ≤ MAX }
     ensures value { result ≡ moved MAX furthest colour alpha }
-    ensures within { unsigned_abs result ≤ 1024 }
+    ensures within { IsFar 1024 result }
 {
     part_of::<MAX>(product(furthest, tilt(colour, alpha)))
 }
@@ -74,7 +75,7 @@ fn is_inside(rect: &Rect, x: i32, y: i32) -> bool
 // A number moved by at most 1024.
 fn moved_by(x: i32, by: i32) -> i32
     requires near { IsSide x }
-    requires few { unsigned_abs by ≤ 1024 }
+    requires few { IsFar 1024 by }
     ensures { result ≡ x +ℤ by }
 {
     x + by

@@ -13,12 +13,12 @@ ghost use Rattle.fx_blur.specs.Mosaic.{mosaic_at};
 ghost use Rattle.fx_spatial.specs.Offset.{offset_at};
 ghost use Rattle.fx_spatial.specs.Shadow.{shadow_of, shadowed_at};
 ghost use Rattle.fx_spatial.specs.Displace.{displaced_at};
-ghost use Rattle.fx_spatial.specs.Spatial.{offset_schema, blur_schema, mosaic_schema, shadow_schema, displace_schema, spatial_schema, spatial_wants, spatial_draws, cast_by};
+ghost use Rattle.fx_spatial.specs.Spatial.{offset_schema, shadow_schema, displace_schema, spatial_schema, spatial_wants, spatial_draws, cast_by};
 
 use crate::displace::Displaced;
 use crate::kind::SpatialKind;
 use crate::offset::Moved;
-use crate::params::{amount, number};
+use crate::params::{far_number, near_number, radius_at, share, size_at};
 use crate::rows::draw_rows;
 use crate::shadow::{Cast, Shadowed};
 use argb_world::World;
@@ -30,6 +30,7 @@ use project_model::FxUse;
 use std::alloc::Global;
 
 // What the uses say of the moment.
+#[tactic(auto, using(crate::specs::Laws::offset_right, crate::specs::Laws::offset_down))]
 fn moved_at<'a, const MAX: u32>(fx: &FxUse, at: Moment, input: &'a World<MAX>) -> Moved<'a, MAX>
     requires based { IsBased fx.now at }
     requires fits { FitsSchema offset_schema (use_of fx.now) }
@@ -39,24 +40,26 @@ fn moved_at<'a, const MAX: u32>(fx: &FxUse, at: Moment, input: &'a World<MAX>) -
 {
     Moved {
         input,
-        dx: number(fx, at, 0),
-        dy: number(fx, at, 1),
+        dx: far_number(fx, at, 0),
+        dy: far_number(fx, at, 1),
     }
 }
 
+#[tactic(auto, using(crate::specs::Laws::opacity_range, crate::specs::Laws::red_range, crate::specs::Laws::green_range, crate::specs::Laws::blue_range))]
 fn cast_at(fx: &FxUse, at: Moment) -> Cast
     requires based { IsBased fx.now at }
     requires fits { FitsSchema shadow_schema (use_of fx.now) }
     ensures { shadow_of result.opacity result.red result.green result.blue ≡ cast_by (use_of fx.now) at }
 {
     Cast {
-        opacity: amount(fx, at, 2),
-        red: amount(fx, at, 3),
-        green: amount(fx, at, 4),
-        blue: amount(fx, at, 5),
+        opacity: share(fx, at, 2),
+        red: share(fx, at, 3),
+        green: share(fx, at, 4),
+        blue: share(fx, at, 5),
     }
 }
 
+#[tactic(auto, using(crate::specs::Laws::right_within, crate::specs::Laws::down_within))]
 fn shadowed_at<'a, const MAX: u32>(
     fx: &FxUse,
     at: Moment,
@@ -71,12 +74,13 @@ fn shadowed_at<'a, const MAX: u32>(
 {
     Shadowed {
         input,
-        dx: number(fx, at, 0),
-        dy: number(fx, at, 1),
+        dx: near_number(fx, at, 0),
+        dy: near_number(fx, at, 1),
         cast: cast_at(fx, at),
     }
 }
 
+#[tactic(auto, using(crate::specs::Laws::displace_right, crate::specs::Laws::displace_down))]
 fn displaced_at<'a, const MAX: u32>(
     fx: &FxUse,
     at: Moment,
@@ -93,27 +97,9 @@ fn displaced_at<'a, const MAX: u32>(
     Displaced {
         input,
         map,
-        max_x: number(fx, at, 0),
-        max_y: number(fx, at, 1),
+        max_x: near_number(fx, at, 0),
+        max_y: near_number(fx, at, 1),
     }
-}
-
-// How far a blur reaches.
-pub(crate) fn radius_at(fx: &FxUse, at: Moment) -> u32
-    requires based { IsBased fx.now at }
-    requires fits { FitsSchema blur_schema (use_of fx.now) }
-    ensures value { result ≡ amount_of (use_of fx.now) 0 at }
-{
-    amount(fx, at, 0)
-}
-
-// How large the blocks of a mosaic are.
-pub(crate) fn size_at(fx: &FxUse, at: Moment) -> u32
-    requires based { IsBased fx.now at }
-    requires fits { FitsSchema mosaic_schema (use_of fx.now) }
-    ensures value { result ≡ amount_of (use_of fx.now) 0 at }
-{
-    amount(fx, at, 0)
 }
 
 /// Each point of the target's part becomes what a spatial effect draws there from the pixels that were checked out. The kind

@@ -1,5 +1,5 @@
-ghost use Rattle.std.specs.Prelude.{◌≡◌, ◌≤◌, ◌||◌, int_lt, length, IfOk};
-ghost use Rattle.geom_rect.specs.Rect.{HasCoordinates};
+ghost use Rattle.std.specs.Prelude.{◌≡◌, ◌≤◌, ◌||◌, int_lt, length, pos, neg_ℤ, IfOk};
+ghost use Rattle.geom_rect.specs.Rect.{HasCoordinates, cover_of, shift_of, grow_of};
 ghost use Rattle.project_model.specs.Effects.{use_of};
 ghost use Rattle.effect_api.specs.Fits.{IsBased, FitsSchema};
 ghost use Rattle.effect_api.specs.Planes.{HasSides, extent_at};
@@ -7,12 +7,12 @@ ghost use Rattle.effect_api.specs.Render.{AreExtents, IsResult, AreCheckouts, Ar
 ghost use Rattle.fx_color.specs.Color.{number_of};
 ghost use Rattle.fx_spatial.specs.Spatial.{displace_schema, shadow_schema, spatial_schema, spatial_wants, want_now, bounds_over, spatial_bounds, need_over, spatial_need, result_over, spatial_result};
 ghost use Rattle.fx_spatial.specs.Shadow.{shadow_bounds, shadow_need};
-ghost use Rattle.fx_spatial.specs.Displace.{displace_need};
+ghost use Rattle.fx_spatial.specs.Displace.{reach_of, displace_need};
+ghost use Rattle.fx_spatial.specs.Near.{IsFar};
 ghost use Rattle.fx_spatial.specs.Asked.{leaves, asked, input_asked, checkouts_of};
 
-use crate::draw::{radius_at, size_at};
 use crate::kind::SpatialKind;
-use crate::params::number;
+use crate::params::{near_number, radius_at, size_at};
 use effect_api::{Checkout, Moment, PreRender, Want, own_wants};
 use fx_blur::blocks;
 use geom_rect::Rect;
@@ -47,48 +47,89 @@ pub fn spatial_wants(alloc: Global, kind: SpatialKind, at: Moment) -> Result<Vec
     }
 }
 
+// A rectangle and where it is moved to.
+fn cover_moved(rect: Rect, dx: i32, dy: i32) -> Rect
+    requires near { HasCoordinates rect }
+    requires right { IsFar 1024 dx }
+    requires down { IsFar 1024 dy }
+    ensures { result ≡ cover_of rect (shift_of rect dx dy) }
+{
+    rect.cover(&rect.shift(dx, dy))
+}
+
+// As far the other way.
+fn opposite(z: i32) -> i32
+    requires { IsFar 1024 z }
+    ensures value { result ≡ neg_ℤ z }
+    ensures near { IsFar 1024 result }
+{
+    -z
+}
+
+// A rectangle grown by so many points.
+fn grown(rect: Rect, points: u32) -> Rect
+    requires near { HasCoordinates rect }
+    requires few { points ≤ 1024 }
+    ensures { result ≡ grow_of rect (pos points) }
+{
+    rect.grow(points as i32)
+}
+
+// The greater of two distances.
+fn reach(max_x: i32, max_y: i32) -> u32
+    requires across { IsFar 1024 max_x }
+    requires down { IsFar 1024 max_y }
+    ensures value { result ≡ reach_of max_x max_y }
+    ensures few { result ≤ 1024 }
+{
+    max_x.unsigned_abs().max(max_y.unsigned_abs())
+}
+
 // A picture and its shadow.
+#[tactic(auto, using(crate::specs::Laws::right_within, crate::specs::Laws::down_within))]
 fn shadow_bounds(fx: &FxUse, at: Moment, extent: Rect) -> Rect
     requires based { IsBased fx.now at }
     requires fits { FitsSchema shadow_schema (use_of fx.now) }
-    requires near { HasSides extent }
+    requires near { HasCoordinates extent }
     ensures { result ≡ shadow_bounds (number_of (use_of fx.now) 0 at) (number_of (use_of fx.now) 1 at) extent }
 {
-    extent.cover(&extent.shift(number(fx, at, 0), number(fx, at, 1)))
+    cover_moved(extent, near_number(fx, at, 0), near_number(fx, at, 1))
 }
 
 // What is needed for a rectangle of a picture and its shadow.
+#[tactic(auto, using(crate::specs::Laws::right_within, crate::specs::Laws::down_within))]
 fn shadow_need(fx: &FxUse, at: Moment, rect: Rect) -> Rect
     requires based { IsBased fx.now at }
     requires fits { FitsSchema shadow_schema (use_of fx.now) }
     requires near { HasCoordinates rect }
     ensures { result ≡ shadow_need (number_of (use_of fx.now) 0 at) (number_of (use_of fx.now) 1 at) rect }
 {
-    rect.cover(&rect.shift(-number(fx, at, 0), -number(fx, at, 1)))
+    let dx = opposite(near_number(fx, at, 0));
+    let dy = opposite(near_number(fx, at, 1));
+    cover_moved(rect, dx, dy)
 }
 
 // What is needed for a rectangle of a displaced picture.
+#[tactic(auto, using(crate::specs::Laws::displace_right, crate::specs::Laws::displace_down))]
 fn displace_need(fx: &FxUse, at: Moment, rect: Rect) -> Rect
     requires based { IsBased fx.now at }
     requires fits { FitsSchema displace_schema (use_of fx.now) }
     requires near { HasCoordinates rect }
     ensures { result ≡ displace_need (number_of (use_of fx.now) 0 at) (number_of (use_of fx.now) 1 at) rect }
 {
-    let across = number(fx, at, 0).unsigned_abs();
-    let down = number(fx, at, 1).unsigned_abs();
-    rect.grow(across.max(down) as i32)
+    grown(rect, reach(near_number(fx, at, 0), near_number(fx, at, 1)))
 }
 
 // Where an effect may draw, over an input of this extent.
 fn bounds_over(kind: SpatialKind, fx: &FxUse, at: Moment, extent: Rect) -> Rect
     requires based { IsBased fx.now at }
     requires fits { FitsSchema (spatial_schema kind) (use_of fx.now) }
-    requires near { HasSides extent }
+    requires near { HasCoordinates extent }
     ensures { result ≡ bounds_over kind (use_of fx.now) at extent }
 {
     match kind {
         SpatialKind::Offset => extent,
-        SpatialKind::BoxBlur => extent.grow(radius_at(fx, at) as i32),
+        SpatialKind::BoxBlur => grown(extent, radius_at(fx, at)),
         SpatialKind::Mosaic => extent,
         SpatialKind::DropShadow => shadow_bounds(fx, at, extent),
         SpatialKind::Displace => extent,
@@ -104,7 +145,7 @@ fn need_over(kind: SpatialKind, fx: &FxUse, at: Moment, extent: Rect, rect: Rect
 {
     match kind {
         SpatialKind::Offset => extent,
-        SpatialKind::BoxBlur => rect.grow(radius_at(fx, at) as i32),
+        SpatialKind::BoxBlur => grown(rect, radius_at(fx, at)),
         SpatialKind::Mosaic => blocks(size_at(fx, at), extent, rect),
         SpatialKind::DropShadow => shadow_need(fx, at, rect),
         SpatialKind::Displace => displace_need(fx, at, rect),
@@ -115,7 +156,7 @@ fn need_over(kind: SpatialKind, fx: &FxUse, at: Moment, extent: Rect, rect: Rect
 fn result_over(kind: SpatialKind, fx: &FxUse, at: Moment, extent: Rect, request: Rect) -> Rect
     requires based { IsBased fx.now at }
     requires fits { FitsSchema (spatial_schema kind) (use_of fx.now) }
-    requires near { HasSides extent }
+    requires near { HasCoordinates extent }
     ensures { result ≡ result_over kind (use_of fx.now) at extent request }
 {
     match kind {
