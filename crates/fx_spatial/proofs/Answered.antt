@@ -13,7 +13,7 @@ use Rattle.effect_api.specs.declared.pre_render.PreRender.{PreRender}
 use Rattle.project_model.specs.Effects.{Use}
 use Rattle.effect_api.specs.Fits.{FitsSchema}
 use Rattle.effect_api.specs.Planes.{HasSides, extent_at}
-use Rattle.effect_api.specs.Render.{IsResult, IsCheckout, AreCheckouts, AreExact}
+use Rattle.effect_api.specs.Render.{AreExtents, IsResult, IsCheckout, AreCheckouts, AreExact}
 use Rattle.fx_color.specs.Color.{amount_of, number_of}
 use Rattle.fx_blur.specs.Mosaic.{blocks_of}
 use Rattle.fx_blur.specs.Blocks.{none_meet, rect_within_blocks, blocks_within_extent}
@@ -21,7 +21,7 @@ use Rattle.fx_spatial.specs.declared.kind.SpatialKind.{SpatialKind}
 use Rattle.fx_spatial.specs.declared.kind.SpatialKind.TheVariants.{Offset, BoxBlur, Mosaic, DropShadow, Displace}
 use Rattle.fx_spatial.specs.Spatial.{spatial_schema, spatial_wants, want_now, bounds_over, result_over}
 use Rattle.fx_spatial.specs.Asked.{leaves, asked, checkouts_of}
-use Rattle.fx_spatial.specs.Laws.{radius_within, size_some, right_within, down_within}
+use Rattle.fx_spatial.specs.Laws.{radius_within, size_some, right_within, down_within, some_planes}
 
 -- ---- sides that are not far away
 
@@ -118,8 +118,7 @@ blocks_close size extent rect some h = by (is_empty (meet_of rect extent)) refl
         let met = (Has-meet_of rect extent _ _).0 (near_corner (meet_of rect extent) (room_from_false (meet_of rect extent) e)) in
         let point = rect_within_blocks size extent rect _ _ some met.0 met.1 in
         let out = outside_from_within (blocks_of size extent rect) extent
-        record { across = omega (arith, ints, point.0, point.1); down = omega (arith, ints, point.2, point.3) } (blocks_within_extent size extent rect some) in
-        (
+        record { across = omega (arith, ints, point.0, point.1); down = omega (arith, ints, point.2, point.3) } (blocks_within_extent size extent rect some) in (
           (omega (arith, ints, out.left, h.left_near.0), omega (arith, ints, point.0, point.1, out.right, h.right_near.1)),
           (omega (arith, ints, out.top, h.top_near.0), omega (arith, ints, point.2, point.3, out.bottom, h.bottom_near.1)),
           (omega (arith, ints, point.0, point.1, out.left, h.left_near.0), omega (arith, ints, out.right, h.right_near.1)),
@@ -139,6 +138,9 @@ result_near DropShadow fx at extent request fits h k =
     close_coordinates _ (meet_close request _ (sides_close request k)
     (cover_close extent _ (sides_close extent h) (shift_close extent (number_of fx 0 at) (number_of fx 1 at) h right.0 right.1 down.0 down.1)))
 result_near Displace fx at extent request fits h k = close_coordinates _ (meet_close request extent (sides_close request k) (sides_close extent h))
+
+pub first_near : (kind : SpatialKind) (at : Moment) (extents : List Rect) → AreExtents (spatial_wants kind at) extents → HasSides (extent_at extents 0)
+first_near kind at extents given = given.near 0 origin (omega (arith, given.one_each, some_planes kind at))
 
 -- ---- what is drawn
 

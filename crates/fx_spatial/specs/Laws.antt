@@ -227,7 +227,7 @@ drawing_over most Displace fx at planes fits depth is =
     (λ x y. (plane_at planes 0).at (x +ℤ moved most (number_of fx 0 at) (map x y).r (map x y).a) (y +ℤ moved most (number_of fx 1 at) (map x y).g (map x y).a))
     (λ x y. is.pixels _ _)
 
-some_planes : (kind : SpatialKind) (at : Moment) → 1 ≤ length (spatial_wants kind at)
+pub some_planes : (kind : SpatialKind) (at : Moment) → 1 ≤ length (spatial_wants kind at)
 some_planes Offset at = omega arith
 some_planes BoxBlur at = omega arith
 some_planes Mosaic at = omega arith

@@ -16,7 +16,6 @@ IsShare z = (pos 0 ≤ℤ z) × (z ≤ℤ pos 10000)
 differ : true ≡ false → ⊥
 differ e = cc
 
-
 pub cover_first : (a b : Rect) → IsWithin a (cover_of a b)
 cover_first a b = by (is_empty a) refl (is_empty b) refl
   where
@@ -85,6 +84,10 @@ near_moved a dx dy n x y left right up down h =
     itself u v k = (Has-grow_of a (pos n) u v (omega (arith, ints))).1 (near_itself a n u v k)
 
     there : IsWithin (shift_of a dx dy) (grow_of a (pos n))
-    there u v k = (Has-grow_of a (pos n) u v (omega (arith, ints))).1
-        (u -ℤ dx, v -ℤ dy, (omega (arith, ints, k.0), omega (arith, ints, k.1), omega (arith, ints, k.2), omega (arith, ints, k.3)),
-        (omega (arith, ints, left, right), omega (arith, ints, left, right)), (omega (arith, ints, up, down), omega (arith, ints, up, down)))
+    there u v k = (Has-grow_of a (pos n) u v (omega (arith, ints))).1 (
+      u -ℤ dx,
+      v -ℤ dy,
+      (omega (arith, ints, k.0), omega (arith, ints, k.1), omega (arith, ints, k.2), omega (arith, ints, k.3)),
+      (omega (arith, ints, left, right), omega (arith, ints, left, right)),
+      (omega (arith, ints, up, down), omega (arith, ints, up, down)),
+    )

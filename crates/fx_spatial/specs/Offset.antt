@@ -14,5 +14,5 @@ abbrev pub offset_at : ℤ → ℤ → Plane → ℤ → ℤ → Argb
 offset_at dx dy plane x y =
     if has plane.extent x y
     then plane.at (wrapped plane.extent.left (width_of plane.extent) (x -ℤ dx))
-        (wrapped plane.extent.top (count_between plane.extent.top plane.extent.bottom) (y -ℤ dy))
+    (wrapped plane.extent.top (count_between plane.extent.top plane.extent.bottom) (y -ℤ dy))
     else clear

@@ -91,7 +91,12 @@ fn column(x: i32, k: usize) -> i32
 }
 
 // What is drawn at a point, for the map's pixel there.
-fn displace_point<const MAX: u32>(rule: &Displaced<MAX>, x: i32, y: i32, pixel: Pixel<MAX>) -> Pixel<MAX>
+fn displace_point<const MAX: u32>(
+    rule: &Displaced<MAX>,
+    x: i32,
+    y: i32,
+    pixel: Pixel<MAX>,
+) -> Pixel<MAX>
     requires depth { IsDepth MAX }
     requires across { IsSide x }
     requires down { IsSide y }

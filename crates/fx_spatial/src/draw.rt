@@ -30,7 +30,6 @@ use project_model::FxUse;
 use std::alloc::Global;
 
 // What the uses say of the moment.
-#[tactic(auto, using(crate::specs::Laws::offset_right, crate::specs::Laws::offset_down))]
 fn moved_at<'a, const MAX: u32>(fx: &FxUse, at: Moment, input: &'a World<MAX>) -> Moved<'a, MAX>
     requires based { IsBased fx.now at }
     requires fits { FitsSchema offset_schema (use_of fx.now) }
@@ -45,7 +44,6 @@ fn moved_at<'a, const MAX: u32>(fx: &FxUse, at: Moment, input: &'a World<MAX>) -
     }
 }
 
-#[tactic(auto, using(crate::specs::Laws::opacity_range, crate::specs::Laws::red_range, crate::specs::Laws::green_range, crate::specs::Laws::blue_range))]
 fn cast_at(fx: &FxUse, at: Moment) -> Cast
     requires based { IsBased fx.now at }
     requires fits { FitsSchema shadow_schema (use_of fx.now) }
@@ -59,7 +57,6 @@ fn cast_at(fx: &FxUse, at: Moment) -> Cast
     }
 }
 
-#[tactic(auto, using(crate::specs::Laws::right_within, crate::specs::Laws::down_within))]
 fn shadowed_at<'a, const MAX: u32>(
     fx: &FxUse,
     at: Moment,
@@ -80,7 +77,6 @@ fn shadowed_at<'a, const MAX: u32>(
     }
 }
 
-#[tactic(auto, using(crate::specs::Laws::displace_right, crate::specs::Laws::displace_down))]
 fn displaced_at<'a, const MAX: u32>(
     fx: &FxUse,
     at: Moment,

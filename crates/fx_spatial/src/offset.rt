@@ -146,13 +146,7 @@ fn copy_run<const MAX: u32>(
 
 // Each pixel of a row that begins at `x`, in the columns of the extent, becomes the one that is moved there from the
 // height `y`.
-fn offset_row<const MAX: u32>(
-    input: &World<MAX>,
-    dx: i32,
-    x: i32,
-    y: i64,
-    into: &mut [Pixel<MAX>],
-)
+fn offset_row<const MAX: u32>(input: &World<MAX>, dx: i32, x: i32, y: i64, into: &mut [Pixel<MAX>])
     requires { input.now.extent.left <ℤ input.now.extent.right }
     ensures inside { (k : ℕ) → k < length into.old → input.now.extent.left ≤ℤ (x +ℤ pos k) → (x +ℤ pos k) <ℤ input.now.extent.right
         → slice_index_or into.new k clear ≡ at input.now (wrapped input.now.extent.left (width_of input.now.extent) ((x +ℤ pos k) -ℤ dx)) y }
@@ -163,8 +157,24 @@ fn offset_row<const MAX: u32>(
     let width = count(extent.left, extent.right);
     let turn = remainder(dx as i64, width);
     let middle = middle(extent.left, extent.right, turn);
-    copy_run(input, x, y, wide(extent.left), middle, apart(width, turn), into);
-    copy_run(input, x, y, middle, wide(extent.right), apart(0, turn), into);
+    copy_run(
+        input,
+        x,
+        y,
+        wide(extent.left),
+        middle,
+        apart(width, turn),
+        into,
+    );
+    copy_run(
+        input,
+        x,
+        y,
+        middle,
+        wide(extent.right),
+        apart(0, turn),
+        into,
+    );
 }
 
 // Nothing at each pixel of a row.

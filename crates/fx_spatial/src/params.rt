@@ -38,18 +38,16 @@ pub(crate) fn share(fx: &FxUse, at: Moment, index: usize) -> u32
 }
 
 /// How far a blur reaches: at most 128 points.
-#[tactic(auto, using(crate::specs::Laws::radius_range))]
 pub(crate) fn radius_at(fx: &FxUse, at: Moment) -> u32
     requires based { IsBased fx.now at }
     requires fits { FitsSchema blur_schema (use_of fx.now) }
     ensures value { result ≡ amount_of (use_of fx.now) 0 at }
     ensures within { result ≤ 128 }
 {
-    checkout_param(fx, at, 0, at.tick) as u32
+    share(fx, at, 0)
 }
 
 /// How large the blocks of a mosaic are: from 1 to 1,024 points.
-#[tactic(auto, using(crate::specs::Laws::size_range))]
 pub(crate) fn size_at(fx: &FxUse, at: Moment) -> u32
     requires based { IsBased fx.now at }
     requires fits { FitsSchema mosaic_schema (use_of fx.now) }
@@ -57,5 +55,5 @@ pub(crate) fn size_at(fx: &FxUse, at: Moment) -> u32
     ensures some { 0 < result }
     ensures within { result ≤ 1024 }
 {
-    checkout_param(fx, at, 0, at.tick) as u32
+    share(fx, at, 0)
 }

@@ -86,7 +86,6 @@ fn reach(max_x: i32, max_y: i32) -> u32
 }
 
 // A picture and its shadow.
-#[tactic(auto, using(crate::specs::Laws::right_within, crate::specs::Laws::down_within))]
 fn shadow_bounds(fx: &FxUse, at: Moment, extent: Rect) -> Rect
     requires based { IsBased fx.now at }
     requires fits { FitsSchema shadow_schema (use_of fx.now) }
@@ -97,7 +96,6 @@ fn shadow_bounds(fx: &FxUse, at: Moment, extent: Rect) -> Rect
 }
 
 // What is needed for a rectangle of a picture and its shadow.
-#[tactic(auto, using(crate::specs::Laws::right_within, crate::specs::Laws::down_within))]
 fn shadow_need(fx: &FxUse, at: Moment, rect: Rect) -> Rect
     requires based { IsBased fx.now at }
     requires fits { FitsSchema shadow_schema (use_of fx.now) }
@@ -110,7 +108,6 @@ fn shadow_need(fx: &FxUse, at: Moment, rect: Rect) -> Rect
 }
 
 // What is needed for a rectangle of a displaced picture.
-#[tactic(auto, using(crate::specs::Laws::displace_right, crate::specs::Laws::displace_down))]
 fn displace_need(fx: &FxUse, at: Moment, rect: Rect) -> Rect
     requires based { IsBased fx.now at }
     requires fits { FitsSchema displace_schema (use_of fx.now) }
@@ -195,7 +192,12 @@ fn asked(input: u32, at: Moment, need: Rect, extent: Rect) -> Checkout
 }
 
 // The checkout of the input alone.
-fn input_asked(alloc: Global, at: Moment, extents: &[Rect], need: Rect) -> Result<Vec<Checkout>, Memory>
+fn input_asked(
+    alloc: Global,
+    at: Moment,
+    extents: &[Rect],
+    need: Rect,
+) -> Result<Vec<Checkout>, Memory>
     requires { 1 ≤ length extents.now }
     ensures { IfOk result (λ list. list.items ≡ input_asked at extents.now need) }
 {

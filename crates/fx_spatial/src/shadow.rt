@@ -71,7 +71,8 @@ impl<'a, const MAX: u32> DrawRow<MAX> for Shadowed<'a, MAX> {
         ensures { into.new ≡ drawn_span (shadowed_at MAX self.now.dx self.now.dy
             (shadow_of self.now.cast.opacity self.now.cast.red self.now.cast.green self.now.cast.blue) (plane_of self.now.input.now)) x y (length into.old) }
     {
-        self.input.read_span(less(x, self.dx), less(y, self.dy), into);
+        self.input
+            .read_span(less(x, self.dx), less(y, self.dy), into);
         recolor_each(&self.cast, into);
         self.input.read_span(x as i64, y as i64, spare);
         blend_row(Mode::Normal, spare, into);
