@@ -1,5 +1,5 @@
 -- The stock set: the kinds of the sets that it is made of, one after another, and what each set says of its own.
-use Rattle.std.specs.Prelude.{ℕ, ◌<◌, ℤ, List, []}
+use Rattle.std.specs.Prelude.{ℕ, ◌<◌, ◌-◌, nat_lt, ℤ, List, [], ◌++◌, if◌then◌else◌, Unit}
 use Rattle.geom_rect.specs.declared.rect.Rect.{Rect}
 use Rattle.geom_rect.specs.Rect.{meet_of}
 use Rattle.argb_pixel.specs.Pixel.{Argb}
@@ -11,43 +11,53 @@ use Rattle.effect_api.specs.declared.moment.Want.{Want}
 use Rattle.effect_api.specs.declared.moment.Ask.{Ask}
 use Rattle.effect_api.specs.Own.{own_wants, own_bounds, no_classes}
 use Rattle.fx_color.specs.Color.{color_schemas, color_draws}
+use Rattle.fx_spatial.specs.Spatial.{spatial_schema, spatial_schemas, kind_of, spatial_wants, spatial_bounds, spatial_need, spatial_result, spatial_draws}
 use Rattle.fx_stock.specs.declared.part.Part.{Part}
-use Rattle.fx_stock.specs.declared.part.Part.TheVariants.{Color}
+use Rattle.fx_stock.specs.declared.part.Part.TheVariants.{Color, Spatial}
 
 -- by the numbers of their kinds
 abbrev pub stock_schemas : List EffectSchema
-stock_schemas = color_schemas
+stock_schemas = color_schemas ++ spatial_schemas
 
 -- the set that a kind is of, with its number there
 abbrev pub part_of : ℕ → Part
-part_of kind = Color kind
+part_of kind = if nat_lt kind 6 then Color kind else Spatial (kind_of (kind - 6))
 
 -- the set has a kind of this number, and its schema
 abbrev pub IsPart : Part → Type 0
 IsPart (Color kind) = kind < 6
+IsPart (Spatial kind) = Unit {0}
 
 abbrev pub part_schema : Part → EffectSchema
 part_schema (Color kind) = schema_of color_schemas kind
+part_schema (Spatial kind) = spatial_schema kind
 
 -- what each set says of it
 abbrev pub part_wants : Part → Use → Moment → List Want
 part_wants (Color kind) fx at = own_wants at
+part_wants (Spatial kind) fx at = spatial_wants kind at
 
 abbrev pub part_asks : Part → Use → Moment → List Ask
 part_asks (Color kind) fx at = []
+part_asks (Spatial kind) fx at = []
 
 abbrev pub part_bounds : Part → Use → Moment → List Rect → Rect
 part_bounds (Color kind) fx at extents = own_bounds extents
+part_bounds (Spatial kind) fx at extents = spatial_bounds kind fx at extents
 
 abbrev pub part_need : Part → Use → Moment → List Rect → ℕ → Rect → Rect
 part_need (Color kind) fx at extents i rect = rect
+part_need (Spatial kind) fx at extents i rect = spatial_need kind fx at extents i rect
 
 -- what is drawn for a request
 abbrev pub part_result : Part → Use → Moment → List Rect → Rect → Rect
 part_result (Color kind) fx at extents request = meet_of request (own_bounds extents)
+part_result (Spatial kind) fx at extents request = spatial_result kind fx at extents request
 
-abbrev pub part_draws : Part → Use → Moment → List Plane → List (List ℕ) → ℤ → ℤ → Argb
-part_draws (Color kind) fx at planes sums = color_draws kind fx at planes
+-- the pixel at a point, where channels are at most this
+abbrev pub part_draws : ℕ → Part → Use → Moment → List Plane → List (List ℕ) → ℤ → ℤ → Argb
+part_draws most (Color kind) fx at planes sums = color_draws kind fx at planes
+part_draws most (Spatial kind) fx at planes sums = spatial_draws most kind fx at planes
 
 -- the sums of a class of the stock, which has none
 abbrev pub stock_sums : ℕ → ℕ → Plane → List ℕ

@@ -12,22 +12,27 @@ ghost use Rattle.effect_api.specs.Effects.{Shows};
 ghost use Rattle.effect_api.specs.Own.{no_classes};
 ghost use Rattle.effect_api.specs.Laws.{no_classes_are, no_sums_few};
 ghost use Rattle.fx_stock.specs.Stock.{stock_schemas, stock_sums, part_of, part_wants, part_asks, part_bounds, part_need, part_result, part_draws};
-ghost use Rattle.fx_stock.specs.Laws.{stock_schemas_are, fits_part, part_wants_are, part_asks_are, part_bounds_are, part_draws_are, part_draws_locally};
+ghost use Rattle.fx_stock.specs.Laws.{stock_schemas_are, fits_part, stock_wants_are, stock_asks_are, part_bounds_are, part_draws_are, part_draws_locally};
 
 use crate::part::Part;
 use argb_world::World;
 use compute_cache::{Keeps, Receipt, Turn};
 use effect_api::{
-    Ask, Checkouts, Draw, Effect, Moment, PreRender, Value, Want, own_pre_render, own_wants,
+    Ask, Checkouts, Draw, Effect, Moment, NO_SEQUENCE, PreRender, Value, Want, own_pre_render,
+    own_wants,
 };
 use fx_color::{color_schemas, color_sequence, recolor_use};
+use fx_spatial::{
+    draw_spatial, pre_render_spatial, spatial_kind, spatial_schemas, spatial_wants,
+};
 use geom_rect::Rect;
 use host_io::Memory;
 use project_model::{EffectSchema, FxUse};
 use sequence_data::{SeqRule, Sequence, SequenceError, keep_sequence};
 use std::alloc::Global;
 
-/// The stock set, by the numbers of its kinds: 0 to 5 are the colour effects.
+/// The stock set, by the numbers of its kinds: 0 to 5 are the colour effects, 6 to 10 Offset, BoxBlur, Mosaic, DropShadow and
+/// Displace.
 #[derive(Clone, Copy, Debug, Drop)]
 pub struct Stock;
 
@@ -36,7 +41,11 @@ fn part_of(kind: u16) -> Part
     requires { kind < length stock_schemas }
     ensures { result ≡ part_of kind }
 {
-    Part::Color(kind)
+    if kind < 6 {
+        Part::Color(kind)
+    } else {
+        Part::Spatial(spatial_kind(kind - 6))
+    }
 }
 
 // Which bytes a kind has.
@@ -46,6 +55,7 @@ fn sequence_rule(kind: u16) -> SeqRule
 {
     match part_of(kind) {
         Part::Color(kind) => color_sequence(kind),
+        Part::Spatial(_) => NO_SEQUENCE,
     }
 }
 
@@ -63,7 +73,10 @@ impl Effect for Stock {
     ghost need = { λ fx at extents i rect. part_need (part_of fx.kind) fx at extents i rect };
 
     fn schemas(&self, alloc: Global) -> Result<Vec<EffectSchema>, Memory> {
-        color_schemas(alloc)
+        let mut schemas = color_schemas(alloc)?;
+        let mut spatial = spatial_schemas(alloc)?;
+        schemas.append(&mut spatial)?;
+        Ok(schemas)
     }
 
     fn class_names(&self, alloc: Global) -> Result<Vec<String>, Memory> {
@@ -73,12 +86,14 @@ impl Effect for Stock {
     fn list_wants(&self, alloc: Global, fx: &FxUse, at: Moment) -> Result<Vec<Want>, Memory> {
         match part_of(fx.kind) {
             Part::Color(_) => own_wants(alloc, at),
+            Part::Spatial(kind) => spatial_wants(alloc, kind, at),
         }
     }
 
     fn list_asks(&self, alloc: Global, fx: &FxUse, _at: Moment) -> Result<Vec<Ask>, Memory> {
         match part_of(fx.kind) {
             Part::Color(_) => Ok(Vec::new(alloc)),
+            Part::Spatial(_) => Ok(Vec::new(alloc)),
         }
     }
 
@@ -103,6 +118,7 @@ impl Effect for Stock {
     {
         match part_of(fx.kind) {
             Part::Color(_) => own_pre_render(alloc, at, extents, request),
+            Part::Spatial(kind) => pre_render_spatial(alloc, kind, fx, at, extents, request),
         }
     }
 
@@ -119,15 +135,15 @@ impl Effect for Stock {
 
     ghost class_names_are = { no_classes_are };
 
-    ghost wants_are = { λ fx at given. part_wants_are (part_of fx.kind) fx at (fits_part fx given.fits) given.held };
+    ghost wants_are = { λ fx at given. stock_wants_are fx at given };
 
-    ghost asks_are = { λ fx at given. part_asks_are (part_of fx.kind) fx at (fits_part fx given.fits) given.held };
+    ghost asks_are = { λ fx at given. stock_asks_are fx at given };
 
     ghost bounds_are = { λ fx at extents given count. part_bounds_are (part_of fx.kind) fx at extents (fits_part fx given.fits) count };
 }
 
 impl<const MAX: u32> Draw<MAX> for Stock {
-    ghost draws = { λ fx at planes sums. part_draws (part_of fx.kind) fx at planes sums };
+    ghost draws = { λ fx at planes sums. part_draws MAX (part_of fx.kind) fx at planes sums };
 
     ghost sums_of = { stock_sums };
 
@@ -149,12 +165,13 @@ impl<const MAX: u32> Draw<MAX> for Stock {
         requires sums { AreSums MAX stock_sums (part_asks (part_of fx.now.kind) (use_of fx.now) at) (sums_in sums.now) }
         ensures frame { SameExtentAndPart target.old target.new }
         ensures drawn { OnOk result (Shows target.old.part
-            (part_draws (part_of fx.now.kind) (use_of fx.now) at (planes_of pixels.now.pairs) (sums_in sums.now)) target.new) }
+            (part_draws MAX (part_of fx.now.kind) (use_of fx.now) at (planes_of pixels.now.pairs) (sums_in sums.now)) target.new) }
     {
         match part_of(fx.kind) {
             Part::Color(kind) => {
                 recolor_use(alloc, kind, fx, at, pixels.checkout_want(0), target)
             }
+            Part::Spatial(kind) => draw_spatial(alloc, kind, fx, at, pixels, target),
         }
     }
 
