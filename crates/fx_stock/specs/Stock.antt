@@ -1,5 +1,5 @@
 -- The stock set: the kinds of the sets that it is made of, one after another, and what each set says of its own.
-use Rattle.std.specs.Prelude.{ℕ, ◌<◌, ◌-◌, nat_lt, ℤ, List, [], ◌++◌, if◌then◌else◌, Unit}
+use Rattle.std.specs.Prelude.{ℕ, ◌<◌, ◌-◌, nat_lt, ℤ, List, [], ◌++◌, if◌then◌else◌}
 use Rattle.geom_rect.specs.declared.rect.Rect.{Rect}
 use Rattle.geom_rect.specs.Rect.{meet_of}
 use Rattle.argb_pixel.specs.Pixel.{Argb}

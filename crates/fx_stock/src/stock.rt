@@ -22,9 +22,7 @@ use effect_api::{
     own_wants,
 };
 use fx_color::{color_schemas, color_sequence, recolor_use};
-use fx_spatial::{
-    draw_spatial, pre_render_spatial, spatial_kind, spatial_schemas, spatial_wants,
-};
+use fx_spatial::{draw_spatial, pre_render_spatial, spatial_kind, spatial_schemas, spatial_wants};
 use geom_rect::Rect;
 use host_io::Memory;
 use project_model::{EffectSchema, FxUse};
