@@ -14,18 +14,18 @@ use Rattle.project_model.specs.Effects.{AreInRange}
 use Rattle.effect_tests.specs.Uses.{IsConstant, AreConstants, AreWithin}
 
 -- a keyframe at zero seconds stands at a tick
-pub key_timed : (value : ℕ) (keys : List Keyframe) → keys ≡ record { time = record { value = pos 0; scale = 1 }; value = pos value; kind = Hold } ∷ [] → All (IsTimed 24) keys
+pub key_timed : (value : ℤ) (keys : List Keyframe) → keys ≡ record { time = record { value = pos 0; scale = 1 }; value = value; kind = Hold } ∷ [] → All (IsTimed 24) keys
 key_timed value keys is = subst (All (IsTimed 24)) (sym is)
-    (All-cons (IsTimed 24) record { time = record { value = pos 0; scale = 1 }; value = pos value; kind = Hold } [] record { scaled = omega arith; divides = one-dvd 24; near = omega arith } (All-nil _))
+    (All-cons (IsTimed 24) record { time = record { value = pos 0; scale = 1 }; value = value; kind = Hold } [] record { scaled = omega arith; divides = one-dvd 24; near = omega arith } (All-nil _))
 
-pub constants_push : (values : List ℕ) (curves : List Curve) (value : ℕ) (curve : Curve) → AreConstants values curves → IsConstant value curve
+pub constants_push : (values : List ℤ) (curves : List Curve) (value : ℤ) (curve : Curve) → AreConstants values curves → IsConstant value curve
     → AreConstants (values ++ value ∷ []) (curves ++ curve ∷ [])
 constants_push [] [] value curve all is = (is, tt)
 constants_push [] (c ∷ cs) value curve all is = elim all [ ]
 constants_push (v ∷ vs) [] value curve all is = elim all [ ]
 constants_push (v ∷ vs) (c ∷ cs) value curve all is = (all.0, constants_push vs cs value curve all.1 is)
 
-pub constants_in_range : (params : List ParamSchema) (values : List ℕ) (curves : List Curve) → AreWithin params values → AreConstants values curves
+pub constants_in_range : (params : List ParamSchema) (values : List ℤ) (curves : List Curve) → AreWithin params values → AreConstants values curves
     → AreInRange params (map (λ (c : Curve). c.keys) curves)
 constants_in_range [] [] [] within all = tt
 constants_in_range [] [] (c ∷ cs) within all = elim all [ ]
@@ -39,9 +39,9 @@ constants_in_range (p ∷ ps) (v ∷ vs) (c ∷ cs) within all = (some, keys, co
 
     keys : All (λ (key : Keyframe). IsBetween p.least p.most key.value) c.keys
     keys = subst (All (λ (key : Keyframe). IsBetween p.least p.most key.value)) (sym all.0.keys)
-        (All-cons (λ (key : Keyframe). IsBetween p.least p.most key.value) record { time = record { value = pos 0; scale = 1 }; value = pos v; kind = Hold } [] within.0 (All-nil _))
+        (All-cons (λ (key : Keyframe). IsBetween p.least p.most key.value) record { time = record { value = pos 0; scale = 1 }; value = v; kind = Hold } [] within.0 (All-nil _))
 
-pub constants_based : (values : List ℕ) (curves : List Curve) → AreConstants values curves → All (λ (c : Curve). c.base ≡ 24) curves
+pub constants_based : (values : List ℤ) (curves : List Curve) → AreConstants values curves → All (λ (c : Curve). c.base ≡ 24) curves
 constants_based [] [] all = All-nil _
 constants_based [] (c ∷ cs) all = elim all [ ]
 constants_based (v ∷ vs) [] all = elim all [ ]

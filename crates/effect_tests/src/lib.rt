@@ -7,6 +7,8 @@ mod checked;
 #[cfg(test)]
 mod colours;
 #[cfg(test)]
+mod spatial;
+#[cfg(test)]
 mod stock;
 mod uses;
 

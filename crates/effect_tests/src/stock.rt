@@ -42,13 +42,18 @@ fn kinds_have_their_names_and_places(rt: HostRuntime) -> Result<(), Fail> {
         "ScaleOffset",
         "Tint",
         "PaletteMap",
+        "Offset",
+        "BoxBlur",
+        "Mosaic",
+        "DropShadow",
+        "Displace",
     ];
-    let counts = [1, 1, 3, 2, 7, 0];
-    assert_eq!(rt; schemas.len(), 6);
+    let counts = [1, 1, 3, 2, 7, 0, 2, 1, 1, 6, 2];
+    assert_eq!(rt; schemas.len(), 11);
     for (kind, schema) in schemas.iter().enumerate() {
         assert_eq!(rt; schema.name.as_str(), names[kind]);
         assert_eq!(rt; schema.params.as_slice().len(), counts[kind]);
-        assert!(rt; schema.threaded && schema.layers == 0);
+        assert!(rt; schema.threaded && schema.layers == u32::from(kind == 10));
     }
     Ok(())
 }
@@ -58,7 +63,7 @@ fn a_palette_has_whole_entries(rt: HostRuntime) -> Result<(), Fail> {
     let (schemas, _) = described(rt.alloc(), &Stock)?;
     let rule = match schemas.get(5) {
         Some(palette) => palette.sequence,
-        None => return Err("six kinds")?,
+        None => return Err("eleven kinds")?,
     };
     let two = read_sequence(rt.alloc(), "000000ffffff", rule)?;
     assert_eq!(rt; two.bytes(), [0, 0, 0, 255, 255, 255].as_slice());

@@ -17,8 +17,8 @@ use std::alloc::Global;
 pub const BASE: TimeBase = TimeBase { ticks: 24 };
 
 // The one keyframe of a value.
-fn key(alloc: Global, value: u32) -> Result<Vec<Keyframe>, Memory>
-    ensures { IfOk result (λ keys. keys.items ≡ record { time = record { value = pos 0; scale = 1 }; value = pos value; kind = Hold } ∷ []) }
+fn key(alloc: Global, value: i32) -> Result<Vec<Keyframe>, Memory>
+    ensures { IfOk result (λ keys. keys.items ≡ record { time = record { value = pos 0; scale = 1 }; value = value; kind = Hold } ∷ []) }
 {
     let mut keys = Vec::new(alloc);
     keys.push(Keyframe {
@@ -30,7 +30,7 @@ fn key(alloc: Global, value: u32) -> Result<Vec<Keyframe>, Memory>
 }
 
 /// One value at all times.
-pub fn constant(alloc: Global, value: u32) -> Result<Stream, Memory>
+pub fn constant(alloc: Global, value: i32) -> Result<Stream, Memory>
     ensures { IfOk result (IsConstant value) }
 {
     let keys = key(alloc, value)?;
@@ -41,7 +41,7 @@ pub fn constant(alloc: Global, value: u32) -> Result<Stream, Memory>
 }
 
 // A stream for each value.
-fn constants(alloc: Global, values: &[u32]) -> Result<Vec<Stream>, Memory>
+fn constants(alloc: Global, values: &[i32]) -> Result<Vec<Stream>, Memory>
     ensures { IfOk result (λ streams. AreConstants values.now streams.items) }
 {
     let mut streams = Vec::new(alloc);
@@ -52,7 +52,7 @@ fn constants(alloc: Global, values: &[u32]) -> Result<Vec<Stream>, Memory>
 }
 
 /// A use of a kind with these values and bytes, which its schema takes. The kind has no layer parameters.
-pub fn steady(alloc: Global, kind: u16, values: &[u32], bytes: &[u8]) -> Result<FxUse, Memory>
+pub fn steady(alloc: Global, kind: u16, values: &[i32], bytes: &[u8]) -> Result<FxUse, Memory>
     requires kind { kind < length stock_schemas }
     requires values { AreWithin (schema_of stock_schemas kind).params values.now }
     requires layers { (schema_of stock_schemas kind).layers ≡ 0 }

@@ -1,11 +1,11 @@
 -- What pre-render answers for the spatial effects.
-use Rattle.std.proofs.Common.{◌≡◌, ◌↔◌, ℕ, zero, suc, ◌<◌, ◌≤◌, ℤ, pos, neg_ℤ, ◌+ℤ◌, ◌-ℤ◌, ◌≤ℤ◌, ◌<ℤ◌, Bool, true, false, List, [], ◌∷◌, length, slice_get, Option, Some, None, if◌then◌else◌, refl, ap, sym, subst, ◌∙◌, arith}
+use Rattle.std.proofs.Common.{◌≡◌, ◌↔◌, ℕ, zero, suc, ◌<◌, ◌≤◌, ℤ, pos, neg_ℤ, ◌-ℤ◌, ◌≤ℤ◌, Bool, true, false, List, [], ◌∷◌, slice_get, Option, Some, None, if◌then◌else◌, refl, ap, sym, subst, ◌∙◌, arith}
 use Rattle.std.specs.Prelude.{IsTrue, not, ◌&&◌, ◌||◌, int_lt}
 use Rattle.std.specs.Option.{unwrap_or}
 use Rattle.std.proofs.lemmas.Int.{ints, clamps}
 use Rattle.geom_rect.specs.declared.rect.Rect.{Rect}
-use Rattle.geom_rect.specs.Rect.{Has, IsWithin, IsCoordinate, HasCoordinates, is_empty, origin, meet_of, hull_of, cover_of, shift_of, grow_of}
-use Rattle.geom_rect.proofs.Points.{Has-meet_of, HasRoom, room_from_false, no_point_from_true, near_corner, grown, outside_from_within}
+use Rattle.geom_rect.specs.Rect.{Has, IsWithin, HasCoordinates, is_empty, origin, meet_of, hull_of, cover_of, shift_of, grow_of}
+use Rattle.geom_rect.proofs.Points.{Has-meet_of, room_from_false, no_point_from_true, near_corner, grown, outside_from_within}
 use Rattle.effect_api.specs.declared.moment.Moment.{Moment}
 use Rattle.effect_api.specs.declared.moment.Want.{Want}
 use Rattle.effect_api.specs.declared.pre_render.Checkout.{Checkout}

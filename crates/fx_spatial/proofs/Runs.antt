@@ -1,18 +1,16 @@
 -- Rows that are copied in runs.
-use Rattle.std.proofs.Common.{◌≡◌, ◌↔◌, ℕ, ◌+◌, ◌-◌, ◌<◌, ◌≤◌, ℤ, pos, negsuc, ◌+ℤ◌, ◌-ℤ◌, ◌≤ℤ◌, ◌<ℤ◌, Bool, true, false, List, length, replicate, get_or, if◌then◌else◌, refl, ap, ap₂, sym, ◌∙◌, arith, ◌⊎◌, inl, inr}
+use Rattle.std.proofs.Common.{◌≡◌, ◌↔◌, ℕ, ◌+◌, ◌-◌, ◌<◌, ◌≤◌, ℤ, pos, ◌+ℤ◌, ◌-ℤ◌, ◌≤ℤ◌, ◌<ℤ◌, Bool, true, false, List, length, replicate, get_or, if◌then◌else◌, refl, ap, sym, ◌∙◌, arith, ◌⊎◌, inl, inr}
 use Rattle.std.specs.Int.{int_rem_euclid}
 use Rattle.std.proofs.lemmas.Int.{ints, by_lt_z}
 use Rattle.std.proofs.lemmas.Bool.{cases_lt}
 use Rattle.std.proofs.lemmas.List.{get_or-replicate}
 use Rattle.std.proofs.lemmas.List.FromFn.{fill_by_all}
 use borrow.Rule.Slice.PartMut.{put_mid}
-use Rattle.geom_rect.specs.declared.rect.Rect.{Rect}
-use Rattle.geom_rect.specs.Rect.{Has, has, positive_part, count_between, width_of}
+use Rattle.geom_rect.specs.Rect.{Has, has, count_between, width_of}
 use Rattle.geom_rect.proofs.Points.{has-true, Has-from_true}
 use Rattle.argb_pixel.specs.Pixel.{Argb, clear}
 use Rattle.argb_world.specs.Picture.{Picture, at, span_of}
 use Rattle.argb_world.proofs.Places.{positive_part_is}
-use Rattle.argb_world.proofs.Rows.{has-false}
 use Rattle.argb_world.proofs.Spans.{length_span, span_at, written_inside, written_beside}
 use Rattle.comp_stack.specs.Layers.{plane_of}
 use Rattle.fx_spatial.specs.Rows.{drawn_span}

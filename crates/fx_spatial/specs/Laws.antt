@@ -1,12 +1,11 @@
 -- The laws of the spatial effects. Their kind is given apart from the use, for sets that number them anew.
-use Rattle.std.specs.Prelude.{unsigned_abs, ◌==◌, max}
-use Rattle.std.specs.List.{All}
-use Rattle.std.proofs.Common.{◌≡◌, ℕ, ◌+◌, ◌*◌, ◌<◌, ◌≤◌, ℤ, pos, negsuc, neg_ℤ, ◌+ℤ◌, ◌-ℤ◌, ◌≤ℤ◌, Bool, true, false, List, [], ◌∷◌, length, if◌then◌else◌, refl, ap, ap₂, sym, subst, ◌∙◌, arith}
+use Rattle.std.specs.Prelude.{unsigned_abs}
+use Rattle.std.proofs.Common.{◌≡◌, ℕ, ◌*◌, ◌<◌, ◌≤◌, ℤ, pos, negsuc, neg_ℤ, ◌+ℤ◌, ◌-ℤ◌, ◌≤ℤ◌, Bool, true, false, List, [], ◌∷◌, length, if◌then◌else◌, refl, ap, ap₂, sym, subst, ◌∙◌, arith}
 use Rattle.std.proofs.lemmas.Int.{ints}
 use Rattle.std.proofs.lemmas.List.Elements.{All-nil, All-cons}
 use Rattle.std.proofs.Math.Nat.{le-max_left, le-max_right}
 use Rattle.geom_rect.specs.declared.rect.Rect.{Rect}
-use Rattle.geom_rect.specs.Rect.{Has, HasNear, has, positive_part, count_between, width_of, is_empty, origin, IsWithin, cover_of, shift_of, grow_of}
+use Rattle.geom_rect.specs.Rect.{Has, HasNear, has, positive_part, count_between, width_of, origin, IsWithin, shift_of, grow_of}
 use Rattle.geom_rect.proofs.Points.{Has-from_true, Has-grow_of}
 use Rattle.argb_pixel.specs.Depth.{IsDepth}
 use Rattle.argb_pixel.specs.Pixel.{Argb, IsPremultiplied, clear, rounded}
@@ -18,7 +17,6 @@ use Rattle.transfer_mode.specs.Transfer.{blend_of}
 use Rattle.transfer_mode.proofs.Rules.{blend_premultiplied, transparent_leaves}
 use Rattle.project_model.specs.Effects.{Use, AreSchemas}
 use Rattle.effect_api.specs.declared.moment.Moment.{Moment}
-use Rattle.effect_api.specs.declared.moment.Want.{Want}
 use Rattle.effect_api.specs.Fits.{IsHeld, FitsSchema}
 use Rattle.effect_api.specs.Planes.{IsPlane, HasSides, AgreeOn, plane_at, extent_at, extents_of, cover_all}
 use Rattle.effect_api.specs.Wants.{IsWant, AreWants, IsBounds}
@@ -27,7 +25,6 @@ use Rattle.effect_api.specs.Own.{no_sums}
 use Rattle.effect_api.specs.Laws.{schemas_from_test, part_within, own_wants_are, extent_of_plane}
 use Rattle.fx_color.specs.Color.{amount_of, number_of}
 use Rattle.fx_color.specs.Laws.{number_within}
-use Rattle.fx_blur.specs.Mosaic.{blocks_of}
 use Rattle.fx_blur.specs.Laws.{blur_drawing, blur_local, mosaic_drawing, mosaic_local}
 use Rattle.fx_spatial.specs.declared.kind.SpatialKind.{SpatialKind}
 use Rattle.fx_spatial.specs.declared.kind.SpatialKind.TheVariants.{Offset, BoxBlur, Mosaic, DropShadow, Displace}
@@ -36,7 +33,7 @@ use Rattle.fx_spatial.specs.Shadow.{shadow_of, shadowed_at, shadow_bounds, shado
 use Rattle.fx_spatial.specs.Displace.{moved, displaced_at, reach_of, displace_need}
 use Rattle.fx_spatial.specs.Spatial.{spatial_schema, spatial_schemas, spatial_wants, want_now, bounds_over, spatial_bounds, need_over, spatial_need, cast_by, spatial_draws, offset_schema, blur_schema, mosaic_schema, shadow_schema, displace_schema}
 use Rattle.fx_spatial.specs.Near.{IsFar, IsShare, cover_first, cover_second, cover_none, grow_none, near_itself, near_grown, near_moved}
-use Rattle.fx_spatial.specs.Moved.{abs_within, within_abs, moved_within, wrapped_within}
+use Rattle.fx_spatial.specs.Moved.{within_abs, moved_within, wrapped_within}
 
 pub spatial_schemas_are : AreSchemas spatial_schemas
 spatial_schemas_are = schemas_from_test spatial_schemas refl

@@ -11,7 +11,7 @@ use Rattle.effect_api.specs.declared.moment.Moment.{Moment}
 use Rattle.effect_api.specs.declared.moment.Want.{Want}
 use Rattle.effect_api.specs.Schemas.{param, no_sequence, plain_effect}
 use Rattle.effect_api.specs.Planes.{extent_at, plane_at}
-use Rattle.effect_api.specs.Own.{own_wants, own_bounds}
+use Rattle.effect_api.specs.Own.{own_wants}
 use Rattle.fx_blur.specs.Blur.{blur_at, blur_extent}
 use Rattle.fx_blur.specs.Mosaic.{mosaic_at, blocks_of}
 use Rattle.fx_color.specs.Color.{share, amount_of, number_of}

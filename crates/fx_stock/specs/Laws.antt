@@ -1,5 +1,5 @@
 -- The laws of the stock set, from those of the sets that it is made of.
-use Rattle.std.proofs.Common.{◌≡◌, ℕ, zero, suc, ◌<◌, List, [], length, refl, subst, sym, arith}
+use Rattle.std.proofs.Common.{◌≡◌, ℕ, zero, suc, ◌<◌, List, length, refl, subst, sym, arith}
 use Rattle.geom_rect.specs.declared.rect.Rect.{Rect}
 use Rattle.comp_stack.specs.Stack.{Plane}
 use Rattle.project_model.specs.declared.effect.EffectSchema.{EffectSchema}

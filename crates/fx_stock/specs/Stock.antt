@@ -9,7 +9,7 @@ use Rattle.project_model.specs.Effects.{Use, schema_of}
 use Rattle.effect_api.specs.declared.moment.Moment.{Moment}
 use Rattle.effect_api.specs.declared.moment.Want.{Want}
 use Rattle.effect_api.specs.declared.moment.Ask.{Ask}
-use Rattle.effect_api.specs.Own.{own_wants, own_bounds, no_classes}
+use Rattle.effect_api.specs.Own.{own_wants, own_bounds}
 use Rattle.fx_color.specs.Color.{color_schemas, color_draws}
 use Rattle.fx_spatial.specs.Spatial.{spatial_schema, spatial_schemas, kind_of, spatial_wants, spatial_bounds, spatial_need, spatial_result, spatial_draws}
 use Rattle.fx_stock.specs.declared.part.Part.{Part}

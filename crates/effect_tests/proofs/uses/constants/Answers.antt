@@ -1,4 +1,4 @@
-use Rattle.std.proofs.Common.{ℕ, ◌+◌, List, ◌++◌, ◌∷◌, [], ◌≡◌, take, subst, sym}
+use Rattle.std.proofs.Common.{ℤ, pos, ◌+◌, List, ◌++◌, ◌∷◌, [], ◌≡◌, take, subst, sym}
 use Rattle.std.proofs.lemmas.List.{take_more}
 use Rattle.param_stream.specs.Curve.{Curve}
 use Rattle.effect_tests.specs.Uses.{AreConstants}
@@ -8,5 +8,5 @@ use Rattle.effect_tests.proofs.uses.constants.Goals as goal
 pub loop-value-preserved : goal.loop-value-preserved
 loop-value-preserved c =
     subst (λ (curves : List Curve). AreConstants (take (c.loop-value.value-index + 1) c.args.values.now) curves) (sym c.in_ok-push.ensures.items)
-    (subst (λ (values : List ℕ). AreConstants values (c.loop-value.streams.items ++ c.in_ok-constant.field-0 ∷ [])) (sym (take_more c.args.values.now c.loop-value.value-index 0 c.loop-value-test.true))
+    (subst (λ (values : List ℤ). AreConstants values (c.loop-value.streams.items ++ c.in_ok-constant.field-0 ∷ [])) (sym (take_more c.args.values.now c.loop-value.value-index (pos 0) c.loop-value-test.true))
     (constants_push _ _ _ _ c.loop-value.invariant c.in_ok-constant.ensures))

@@ -1,4 +1,4 @@
-use Rattle.std.proofs.Common.{rules, w32}
+use Rattle.std.proofs.Common.{w32}
 use Rattle.fx_spatial.proofs.Drawn.{has_is}
 use Rattle.fx_spatial.proofs.displace.is_inside.Goals as goal
 use Rattle.std.specs.Int.RustNames.{FitsSigned}

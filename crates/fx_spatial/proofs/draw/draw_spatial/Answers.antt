@@ -1,4 +1,4 @@
-use Rattle.std.proofs.Common.{◌≡◌, ℕ, ℤ, ap, ap₂, sym, ◌∙◌}
+use Rattle.std.proofs.Common.{ℕ, ℤ, ap, ap₂, sym, ◌∙◌}
 use Rattle.std.proofs.lemmas.Result.{on_ok_weaker}
 use Rattle.argb_pixel.specs.Pixel.{Argb}
 use Rattle.comp_stack.specs.Stack.{Plane}
@@ -10,7 +10,7 @@ use Rattle.fx_blur.specs.Mosaic.{mosaic_at}
 use Rattle.fx_color.specs.Color.{number_of}
 use Rattle.fx_spatial.specs.declared.kind.SpatialKind.{SpatialKind}
 use Rattle.fx_spatial.specs.Shadow.{shadow_of, shadowed_at}
-use Rattle.fx_spatial.specs.Spatial.{cast_by, spatial_draws}
+use Rattle.fx_spatial.specs.Spatial.{spatial_draws}
 use Rattle.fx_spatial.proofs.draw.draw_spatial.Goals as goal
 
 pub returns-in-BoxBlur-clause-drawn : goal.returns-in-BoxBlur-clause-drawn

@@ -1,5 +1,4 @@
-use Rattle.std.proofs.Common.{rules, ◌<◌, arith, w64}
-use Rattle.std.specs.Prelude.{unsigned_abs}
+use Rattle.std.proofs.Common.{arith}
 use Rattle.std.proofs.lemmas.Int.{ints}
 use Rattle.fx_spatial.proofs.offset.remainder.Goals as goal
 

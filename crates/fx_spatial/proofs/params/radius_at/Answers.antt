@@ -1,4 +1,4 @@
-use Rattle.std.proofs.Common.{ℕ, ◌<◌, ◌≤◌, arith, subst, sym}
+use Rattle.std.proofs.Common.{ℕ, ◌≤◌, arith, subst, sym}
 use Rattle.std.proofs.lemmas.Int.{ints}
 use Rattle.project_model.specs.Effects.{use_of}
 use Rattle.fx_spatial.specs.Laws.{radius_range, radius_within}

@@ -1,5 +1,5 @@
 use Rattle.project_model.specs.Effects.{use_of}
-use Rattle.std.proofs.Common.{rules, ◌≡◌, ℕ, ℤ, pos, neg_ℤ, ap, ap₂, ◌∙◌, w32}
+use Rattle.std.proofs.Common.{rules, ◌≡◌, ℕ, pos, ap, ap₂, ◌∙◌, w32}
 use Rattle.std.specs.Int.RustNames.{FitsSigned}
 use Rattle.std.proofs.lemmas.Int.{to_z-of_z}
 use Rattle.geom_rect.specs.Rect.{grow_of}

@@ -1,8 +1,7 @@
-use Rattle.std.proofs.Common.{◌≡◌, ℕ, List, ap, subst, sym, ◌∙◌}
+use Rattle.std.proofs.Common.{ℕ, ap, subst, sym, ◌∙◌}
 use Rattle.geom_rect.specs.declared.rect.Rect.{Rect}
 use Rattle.geom_rect.specs.Rect.{HasCoordinates}
 use Rattle.project_model.specs.Effects.{use_of}
-use Rattle.effect_api.specs.declared.pre_render.Checkout.{Checkout}
 use Rattle.effect_api.specs.Planes.{extent_at}
 use Rattle.effect_api.specs.Render.{AreCheckouts, AreExact}
 use Rattle.fx_spatial.specs.Spatial.{spatial_wants, spatial_need}

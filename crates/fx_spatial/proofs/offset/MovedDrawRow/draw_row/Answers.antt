@@ -1,8 +1,8 @@
-use Rattle.std.proofs.Common.{rules, ◌≡◌, ℕ, ◌<◌, ℤ, pos, ◌+ℤ◌, ◌-ℤ◌, ◌≤ℤ◌, ◌<ℤ◌, ap, subst, sym, ◌∙◌, length, get_or, arith, w32, w64}
+use Rattle.std.proofs.Common.{rules, ◌≡◌, ℤ, pos, ◌+ℤ◌, ◌-ℤ◌, ◌≤ℤ◌, ◌<ℤ◌, ap, subst, sym, ◌∙◌, length, arith, w32, w64}
 use Rattle.std.specs.Int.RustNames.{FitsSigned}
 use Rattle.std.proofs.lemmas.Int.{ints, to_z-of_z}
 use Rattle.geom_rect.specs.declared.rect.Rect.{Rect}
-use Rattle.geom_rect.specs.Rect.{Has, count_between, width_of}
+use Rattle.geom_rect.specs.Rect.{count_between, width_of}
 use Rattle.argb_world.specs.Picture.{at}
 use Rattle.fx_spatial.specs.Offset.{wrapped}
 use Rattle.fx_spatial.proofs.Runs.{offset_shown, cleared_at, never_both}

@@ -1,4 +1,4 @@
-use Rattle.std.proofs.Common.{◌≡◌, IfOk, subst, sym, ◌∙◌}
+use Rattle.std.proofs.Common.{IfOk, subst, sym, ◌∙◌}
 use Rattle.project_model.specs.Effects.{use_of}
 use Rattle.effect_api.specs.Fits.{FitsSchema}
 use Rattle.effect_api.specs.Render.{AreCheckouts, AreExact}
