@@ -1,0 +1,4 @@
+pub mod Plan
+pub mod Requests
+pub mod Suffices
+pub mod Held
