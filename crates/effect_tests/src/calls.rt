@@ -14,6 +14,7 @@ use geom_rect::Rect;
 use host_io::Memory;
 use project_model::{EffectSchema, FxUse};
 use sequence_data::{Sequence, SequenceError};
+use smart_plan::{DrawPlan, plan};
 use std::alloc::Global;
 
 /// A job with no values.
@@ -76,6 +77,23 @@ pub fn prepared<E: Effect>(
     requires request { HasSides request }
 {
     effects.pre_render(alloc, fx, at, &[extent], request)
+}
+
+/// What a request to a use needs.
+pub fn needed<const MAX: u32, E: Draw<MAX>>(
+    alloc: Global,
+    effects: &E,
+    fx: &FxUse,
+    at: Moment,
+    extents: &[Rect],
+    request: Rect,
+) -> Result<DrawPlan, Memory>
+    requires given { IsGiven E.schemas (use_of fx.now) at }
+    requires based { IsBased fx.now at }
+    requires extents { AreExtents (E.wants (use_of fx.now) at) extents.now }
+    requires request { HasSides request }
+{
+    plan(alloc, effects, fx, at, extents, request)
 }
 
 /// Sequence data of a kind.

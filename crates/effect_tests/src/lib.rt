@@ -7,10 +7,14 @@ mod checked;
 #[cfg(test)]
 mod colours;
 #[cfg(test)]
+mod planned;
+#[cfg(test)]
 mod spatial;
 #[cfg(test)]
 mod stock;
 mod uses;
+mod wide;
 
-pub use calls::{Nothing, counted, described, drawn, kept, prepared};
+pub use calls::{Nothing, counted, described, drawn, kept, needed, prepared};
 pub use uses::{BASE, constant, steady};
+pub use wide::{Wide, wide_use};
