@@ -1,10 +1,13 @@
 //! Every call of the two traits, through their bounds.
-ghost use Rattle.std.specs.Prelude.{◌≡◌, ◌<◌, [], length, None};
+ghost use Rattle.std.specs.Prelude.{◌≡◌, ◌<◌, ◌∷◌, [], length, None, OnOk};
 ghost use Rattle.argb_pixel.specs.Depth.{IsDepth};
+ghost use Rattle.argb_world.specs.Picture.{SameExtentAndPart};
+ghost use Rattle.comp_stack.specs.Layers.{plane_of};
 ghost use Rattle.project_model.specs.Effects.{use_of};
 ghost use Rattle.effect_api.specs.Fits.{IsBased, IsGiven};
 ghost use Rattle.effect_api.specs.Planes.{HasSides};
 ghost use Rattle.effect_api.specs.Render.{AreExtents};
+ghost use Rattle.effect_api.specs.Effects.{Shows};
 ghost use Rattle.effect_api.specs.Own.{own_wants};
 
 use argb_world::World;
@@ -124,6 +127,8 @@ pub fn drawn<const MAX: u32, E: Draw<MAX>>(
     requires asks { E.asks (use_of fx.now) at ≡ [] }
     requires extent { HasSides input.extent }
     requires part { HasSides target.old.part }
+    ensures frame { SameExtentAndPart target.old target.new }
+    ensures shown { OnOk result (Shows target.old.part (E.draws (use_of fx.now) at (plane_of input.entry ∷ []) []) target.new) }
 {
     let mut pixels = Checkouts::<MAX, Nothing<MAX>>::with_room(alloc, 1)?;
     let sums: Vec<Receipt<Nothing<MAX>>> = Vec::new(alloc);

@@ -8,6 +8,7 @@ mod checked;
 mod colours;
 #[cfg(test)]
 mod planned;
+mod sparing;
 #[cfg(test)]
 mod spatial;
 #[cfg(test)]
@@ -16,5 +17,6 @@ mod uses;
 mod wide;
 
 pub use calls::{Nothing, counted, described, drawn, kept, needed, prepared};
+pub use sparing::{drawn_sparingly, one_colour};
 pub use uses::{BASE, constant, steady};
 pub use wide::{Wide, wide_use};

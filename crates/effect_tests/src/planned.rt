@@ -3,8 +3,10 @@ ghost use Rattle.std.specs.Prelude.{◌≡◌};
 ghost use Rattle.effect_api.specs.Planes.{HasSides};
 
 use crate::calls::needed;
+use crate::sparing::{drawn_sparingly, one_colour};
 use crate::uses::{BASE, steady};
 use crate::wide::{Wide, wide_use};
+use argb_pixel::Pixel;
 use effect_api::Moment;
 use fx_stock::Stock;
 use geom_rect::Rect;
@@ -79,5 +81,28 @@ fn more_is_needed_than_is_drawn(rt: HostRuntime) -> Result<(), Fail> {
     for ask in plan.asks.iter() {
         assert_eq!(rt; (ask.class, ask.ask, ask.want.tick), (1, 7, Tick(5)));
     }
+    Ok(())
+}
+
+// Of the input 0..4 by 0..2 only columns 1 and 2 of the upper row are drawn.
+#[test]
+fn a_part_of_the_input_is_enough(rt: HostRuntime) -> Result<(), Fail> {
+    let fx = steady(rt.alloc(), 0, &[0], &[])?;
+    let red = match Pixel::<255>::new(255, 255, 0, 0) {
+        Some(red) => red,
+        None => return Err("a pixel")?,
+    };
+    let input = one_colour(rt.alloc(), rect(0, 0, 4, 2), red)?;
+    let request = rect(1, 0, 3, 1);
+    let drawn = drawn_sparingly::<255, Stock>(rt.alloc(), &Stock, &fx, LATER, &input, request)?;
+    assert_eq!(rt; (drawn.extent(), drawn.part()), (rect(0, 0, 4, 2), request));
+    for x in 1..3 {
+        let cyan = drawn.at(x, 0);
+        assert_eq!(rt;
+            (cyan.a(), cyan.r(), cyan.g(), cyan.b()),
+            (255, 0, 255, 255)
+        );
+    }
+    assert_eq!(rt; drawn.at(0, 0).a(), 0);
     Ok(())
 }
