@@ -15,7 +15,7 @@ use Rattle.comp_stack.specs.Layers.{plane_of}
 use Rattle.effect_api.specs.declared.moment.Want.{Want}
 use Rattle.effect_api.specs.declared.moment.Ask.{Ask}
 use Rattle.effect_api.specs.declared.pre_render.Checkout.{Checkout}
-use Rattle.effect_api.specs.Planes.{IsPlane, AgreeOnNeed, plane_at, extents_of}
+use Rattle.effect_api.specs.Planes.{IsPlane, AgreeOnNeed, plane_at}
 use Rattle.effect_api.specs.Checked.{AreSums}
 use Rattle.effect_api.specs.Effects.{IsInput, IsDrawing, Shows}
 use Rattle.smart_plan.specs.Plan.{IsPart}

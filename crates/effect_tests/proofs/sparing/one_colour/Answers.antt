@@ -1,4 +1,4 @@
-use Rattle.std.proofs.Common.{ℤ, sym, subst, ◌∙◌}
+use Rattle.std.proofs.Common.{sym, subst, ◌∙◌}
 use Rattle.geom_rect.specs.declared.rect.Rect.{Rect}
 use Rattle.geom_rect.specs.Rect.{Has}
 use Rattle.comp_stack.specs.Layers.{plane_of}
