@@ -3,3 +3,4 @@ pub mod Moving
 pub mod Adding
 pub mod Drawn
 pub mod BlockMeans
+pub mod Quotient

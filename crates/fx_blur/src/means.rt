@@ -3,7 +3,7 @@ ghost use Rattle.argb_pixel.specs.Depth.{IsDepth};
 ghost use Rattle.argb_pixel.specs.Pixel.{IsPremultiplied, clear};
 ghost use Rattle.fx_blur.specs.Sums.{total, mean_of};
 
-use crate::sums::{Sums, Totals};
+use crate::sums::{Sums, Totals, part_of};
 use argb_pixel::{Pixel, Transparent};
 
 // The sum of so many columns from a place on. A column has at most 1,024 pixels.
@@ -43,9 +43,10 @@ pub(crate) fn write_means<const MAX: u32>(columns: &[Sums], across: u32, into: &
         → slice_index_or into.new i clear ≡ mean_of (across * across) (total (λ k. slice_index_or columns.now (i + k) clear) across) }
 {
     let count = across as u64 * across as u64;
+    let part = part_of(count);
     let mut sum = sum_columns(columns, 0, across);
     for i in 0..into.len() {
-        into[i] = sum.mean(count);
+        into[i] = sum.mean_by(count, part);
         sum = next_sum(sum, columns, i, across);
     }
 }

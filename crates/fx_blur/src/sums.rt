@@ -1,4 +1,4 @@
-ghost use Rattle.std.specs.Prelude.{◌≡◌, ◌<◌, ◌≤◌, ◌*◌};
+ghost use Rattle.std.specs.Prelude.{◌≡◌, ◌+◌, ◌<◌, ◌≤◌, ◌*◌, ◌/◌};
 ghost use Rattle.argb_pixel.specs.Depth.{IsDepth};
 ghost use Rattle.argb_pixel.specs.Pixel.{IsPremultiplied, clear, rounded};
 ghost use Rattle.fx_blur.specs.Sums.{plus, mean_of};
@@ -126,6 +126,24 @@ impl Totals {
         }
     }
 
+    /// The mean of so many pixels, of which it is the sum, by what `part_of` says of the number.
+    #[inline(always)]
+    pub fn mean_by<const MAX: u32>(self, count: u64, part: u64) -> Pixel<MAX>
+        requires depth { IsDepth MAX }
+        requires some { 0 < count }
+        requires few { count ≤ 66049 }
+        requires part { part ≡ 281474976710656 / count + 1 }
+        requires within { IsPremultiplied (MAX * count) self }
+        ensures { result ≡ mean_of count self }
+    {
+        Pixel::of_channels(
+            rounded_by(self.a, count, part),
+            rounded_by(self.r, count, part),
+            rounded_by(self.g, count, part),
+            rounded_by(self.b, count, part),
+        )
+    }
+
     /// The mean of so many pixels, of which it is the sum.
     #[inline(always)]
     pub fn mean<const MAX: u32>(self, count: u64) -> Pixel<MAX>
@@ -142,6 +160,26 @@ impl Totals {
             rounded_share(self.b, count),
         )
     }
+}
+
+/// What a sum is multiplied by in place of a division by a number: so many parts of 2^48.
+pub fn part_of(count: u64) -> u64
+    requires { 0 < count }
+    ensures { result ≡ 281474976710656 / count + 1 }
+{
+    281474976710656 / count + 1
+}
+
+// A channel's mean, to the nearest whole number, a half up: as many parts of 2^48 as the number has.
+#[inline(always)]
+fn rounded_by(sum: u64, count: u64, part: u64) -> u32
+    requires some { 0 < count }
+    requires few { count ≤ 66049 }
+    requires part { part ≡ 281474976710656 / count + 1 }
+    requires within { sum ≤ 32768 * count }
+    ensures { result ≡ rounded sum count }
+{
+    ((sum + count / 2) * part / 281474976710656) as u32
 }
 
 // A channel's mean, to the nearest whole number, a half up.
