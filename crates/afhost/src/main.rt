@@ -1,4 +1,4 @@
-//! The program: renders the project on standard input to standard output, as an AFR file. Its clips are the files of the folder
+//! The program: renders the project on standard input to standard output, as an AFR file, with the stock effects. Its clips are the files of the folder
 //! `clips` below the current one.
 #![tactic(auto)]
 
@@ -6,6 +6,7 @@ ghost use Rattle.std.specs.Prelude.{◌≡◌};
 ghost use Rattle.std.specs.declared.io.ErrorKind.TheVariants.{OutOfMemory};
 ghost use Rattle.host_run.specs.declared.arguments.ArgumentsError.TheVariants.{NotText, Memory};
 
+use fx_stock::{Stock, stock_is_steady};
 use host_io::{DiskClips, StdNotes, StdSink, StdSource};
 use host_run::{ArgumentsError, program};
 use std::env;
@@ -42,9 +43,11 @@ fn main(rt: HostRuntime) -> ExitCode {
     let mut notes = StdNotes::new(rt.stderr());
     let alloc = rt.alloc();
     let mut clips = DiskClips::new(rt);
+    stock_is_steady();
     program(
         alloc,
         arguments,
+        &Stock,
         &mut project,
         &mut clips,
         &mut out,

@@ -34,7 +34,7 @@ use Rattle.effect_api.specs.Planes.{extents_of}
 use Rattle.effect_api.specs.Fits.{IsHeld, IsGiven}
 use Rattle.effect_api.specs.Sets.{EffectSet, Drawing, IsLawfulSet}
 use Rattle.scene_meaning.specs.Drawn.{nothing, moment_at, input_plane, drawn_plane}
-use Rattle.scene_meaning.specs.Steady.{IsSteady}
+use Rattle.effect_api.specs.Sets.{IsSteady}
 use Rattle.scene_meaning.specs.Shown.{PlainScene, Sources, comp_plane, named_plane, plane, shown, source_plane}
 use Rattle.frame_draw.specs.Boxes.{IsBoxed}
 use Rattle.frame_draw.specs.Layers.{IsCompOf, IsLayerIn}

@@ -18,7 +18,7 @@ use Rattle.effect_api.specs.Sets.{EffectSet}
 use Rattle.scene_meaning.specs.Drawn.{input_plane}
 use Rattle.scene_meaning.specs.Scene.{SceneParts}
 use Rattle.scene_meaning.specs.Shown.{Sources, named_plane, plane_behind}
-use Rattle.scene_meaning.specs.Steady.{IsSteady}
+use Rattle.effect_api.specs.Sets.{IsSteady}
 use Rattle.frame_draw.specs.Boxes.{IsBoxed}
 
 -- a scene of this depth whose effects are of the set, which draws from one tick alone

@@ -4,7 +4,7 @@ ghost use Rattle.project_model.specs.Plain.{plain_of};
 ghost use Rattle.scene_meaning.specs.Output.{frame_count, root_of, frame_tick as meaning_tick};
 ghost use Rattle.project_model.specs.declared.plain.PlainComp.{PlainComp};
 ghost use Rattle.project_model.specs.Uses.{AreUses};
-ghost use Rattle.scene_meaning.specs.Steady.{IsSteady};
+ghost use Rattle.effect_api.specs.Sets.{IsSteady};
 ghost use Rattle.scene_meaning.specs.Shown.{base_in};
 ghost use Rattle.effect_api.specs.Fits.{IsHeld};
 ghost use Rattle.frame_draw.specs.Drawn.{IsFrame};

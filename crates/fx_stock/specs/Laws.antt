@@ -1,5 +1,7 @@
 -- The laws of the stock set, from those of the sets that it is made of.
-use Rattle.std.proofs.Common.{◌≡◌, ℕ, zero, suc, ◌<◌, List, length, refl, subst, sym, arith}
+use Rattle.std.proofs.Common.{◌≡◌, ℕ, zero, suc, ◌<◌, List, [], ◌∷◌, length, refl, subst, sym, arith}
+use Rattle.std.specs.List.{All}
+use Rattle.std.proofs.lemmas.List.Elements.{All-nil, All-cons}
 use Rattle.geom_rect.specs.declared.rect.Rect.{Rect}
 use Rattle.comp_stack.specs.Stack.{Plane}
 use Rattle.project_model.specs.declared.effect.EffectSchema.{EffectSchema}
@@ -9,13 +11,16 @@ use Rattle.effect_api.specs.Fits.{IsHeld, IsGiven, FitsSchema}
 use Rattle.effect_api.specs.Planes.{extents_of}
 use Rattle.effect_api.specs.Wants.{AreWants, AreAsks, IsBounds}
 use Rattle.effect_api.specs.Effects.{IsInput, IsDrawing, IsLocal}
-use Rattle.effect_api.specs.Own.{no_classes}
+use Rattle.effect_api.specs.Own.{no_classes, own_wants}
+use Rattle.effect_api.specs.Sets.{IsSteady}
+use Rattle.effect_api.specs.declared.moment.Want.{Want}
+use Rattle.fx_spatial.specs.declared.kind.SpatialKind.TheVariants.{Offset, BoxBlur, Mosaic, DropShadow, Displace}
 use Rattle.effect_api.specs.Laws.{schemas_from_test, fits_schema, own_wants_are, no_asks_are, own_bounds_are}
 use Rattle.fx_color.specs.Laws.{color_drawing, color_local}
 use Rattle.fx_spatial.specs.Laws.{spatial_wants_are, spatial_bounds_are, spatial_drawing, spatial_local}
 use Rattle.fx_stock.specs.declared.part.Part.{Part}
 use Rattle.fx_stock.specs.declared.part.Part.TheVariants.{Color, Spatial}
-use Rattle.fx_stock.specs.Stock.{stock_schemas, stock_sums, part_of, IsPart, part_schema, part_wants, part_asks, part_bounds, part_need, part_draws}
+use Rattle.fx_stock.specs.Stock.{stock_schemas, stock_set, stock_sums, part_of, IsPart, part_schema, part_wants, part_asks, part_bounds, part_need, part_draws}
 
 pub stock_schemas_are : AreSchemas stock_schemas
 stock_schemas_are = schemas_from_test stock_schemas refl
@@ -85,3 +90,32 @@ pub stock_asks_are : (fx : Use) (at : Moment) → IsGiven stock_schemas fx at �
 stock_asks_are fx at given =
     subst (λ (s : EffectSchema). AreAsks (length no_classes) s.layers at.base.ticks (part_asks (part_of fx.kind) fx at)) (sym (schema_is fx.kind given.fits.known))
     (part_asks_are (part_of fx.kind) fx at (fits_part fx given.fits) given.held)
+
+-- ---- each effect draws from planes at its own tick, and from no analysis
+
+-- the want is at this tick
+abbrev IsNow : Moment → Want → Type 0
+IsNow at want = want.tick ≡ at.tick
+
+own_now : (at : Moment) → All (IsNow at) (own_wants at)
+own_now at = All-cons (IsNow at) (record { input = 0; tick = at.tick }) [] refl (All-nil (IsNow at))
+
+part_now : (part : Part) (fx : Use) (at : Moment) → All (IsNow at) (part_wants part fx at)
+part_now (Color kind) fx at = own_now at
+part_now (Spatial Offset) fx at = own_now at
+part_now (Spatial BoxBlur) fx at = own_now at
+part_now (Spatial Mosaic) fx at = own_now at
+part_now (Spatial DropShadow) fx at = own_now at
+part_now (Spatial Displace) fx at =
+    All-cons (IsNow at) (record { input = 0; tick = at.tick }) (record { input = 1; tick = at.tick } ∷ []) refl
+    (All-cons (IsNow at) (record { input = 1; tick = at.tick }) [] refl (All-nil (IsNow at)))
+
+part_asks_none : (part : Part) (fx : Use) (at : Moment) → part_asks part fx at ≡ []
+part_asks_none (Color kind) fx at = refl
+part_asks_none (Spatial kind) fx at = refl
+
+pub stock_steady : IsSteady stock_set
+stock_steady = record {
+  own_tick = λ fx at given. part_now (part_of fx.kind) fx at;
+  no_asks = λ fx at given. part_asks_none (part_of fx.kind) fx at;
+}

@@ -9,7 +9,8 @@ use Rattle.project_model.specs.Effects.{Use, schema_of}
 use Rattle.effect_api.specs.declared.moment.Moment.{Moment}
 use Rattle.effect_api.specs.declared.moment.Want.{Want}
 use Rattle.effect_api.specs.declared.moment.Ask.{Ask}
-use Rattle.effect_api.specs.Own.{own_wants, own_bounds}
+use Rattle.effect_api.specs.Own.{own_wants, own_bounds, no_classes}
+use Rattle.effect_api.specs.Sets.{EffectSet}
 use Rattle.fx_color.specs.Color.{color_schemas, color_draws}
 use Rattle.fx_spatial.specs.Spatial.{spatial_schema, spatial_schemas, kind_of, spatial_wants, spatial_bounds, spatial_need, spatial_result, spatial_draws}
 use Rattle.fx_stock.specs.declared.part.Part.{Part}
@@ -62,3 +63,14 @@ part_draws most (Spatial kind) fx at planes sums = spatial_draws most kind fx at
 -- the sums of a class of the stock, which has none
 abbrev pub stock_sums : ℕ → ℕ → Plane → List ℕ
 stock_sums class ask plane = []
+
+-- the stock as a value
+abbrev pub stock_set : EffectSet
+stock_set = record {
+  schemas = stock_schemas;
+  class_names = no_classes;
+  wants = λ fx at. part_wants (part_of fx.kind) fx at;
+  asks = λ fx at. part_asks (part_of fx.kind) fx at;
+  bounds = λ fx at extents. part_bounds (part_of fx.kind) fx at extents;
+  need = λ fx at extents i rect. part_need (part_of fx.kind) fx at extents i rect;
+}

@@ -1,6 +1,6 @@
 ghost use Rattle.std.specs.Prelude.{◌≡◌, drop, map, string_bytes, IfOk, IfErr, IsOkAnd};
 ghost use Rattle.std.specs.Process.{exit_status};
-ghost use Rattle.scene_meaning.specs.Steady.{IsSteady};
+ghost use Rattle.effect_api.specs.Sets.{IsSteady};
 ghost use Rattle.host_run.specs.Ending.{ending_of_arguments};
 ghost use Rattle.host_run.specs.Exit.{HasExited, HasRefused};
 ghost use Rattle.host_run.specs.Headline.{IsRendered};

@@ -1,7 +1,7 @@
 ghost use Rattle.std.specs.Prelude.{◌≡◌, map, string_bytes, IfOk};
 ghost use Rattle.project_model.specs.Plain.{plain_of};
 ghost use Rattle.project_model.specs.Effects.{AreSchemas};
-ghost use Rattle.scene_meaning.specs.Steady.{IsSteady};
+ghost use Rattle.effect_api.specs.Sets.{IsSteady};
 ghost use Rattle.host_run.specs.Effects.{Effects, scene_of};
 ghost use Rattle.host_run.specs.Headline.{IsRendered, IsAnswered};
 ghost use Rattle.host_run.specs.Run.{HasEnded, HasRun, seen_of, seen_store};

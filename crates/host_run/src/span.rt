@@ -6,7 +6,7 @@ ghost use Rattle.project_model.specs.Bounds.{most_of, most_frames};
 ghost use Rattle.project_model.specs.Plain.{plain_of, plain_comp};
 ghost use Rattle.project_model.specs.Sound.{IsSound};
 ghost use Rattle.project_model.specs.Uses.{AreUses};
-ghost use Rattle.scene_meaning.specs.Steady.{IsSteady};
+ghost use Rattle.effect_api.specs.Sets.{IsSteady};
 ghost use Rattle.host_run.specs.Effects.{scene_of};
 ghost use Rattle.scene_meaning.specs.Output.{file, root_of, frame_count, root_file, frame_bytes, header_of};
 ghost use Rattle.host_run.specs.Stages.{InRoot};

@@ -1,6 +1,7 @@
 //! Clips in whole runs, worked by hand.
 
 use crate::runs::words_of;
+use fx_stock::{Stock, stock_is_steady};
 use host_io::{MemClips, NeverSink, NeverSource, Status};
 use host_run::run;
 use std::alloc::{AllocError, Global};
@@ -64,9 +65,11 @@ pub(crate) fn run_with(
     let mut clips = MemClips::new(clips, fails.to_vec(alloc)?);
     let mut out = NeverSink::new(alloc, 1000);
     let mut notes = NeverSink::new(alloc, 1000);
+    stock_is_steady();
     let status = run(
         alloc,
         &words,
+        &Stock,
         &mut project,
         &mut clips,
         &mut out,

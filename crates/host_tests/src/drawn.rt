@@ -1,6 +1,7 @@
 //! Frames of a row of three pixels, worked by hand, through whole runs.
 
 use crate::runs::no_clips;
+use fx_stock::{Stock, stock_is_steady};
 use host_io::{NeverSink, NeverSource, Status};
 use host_run::run;
 use std::alloc::Global;
@@ -20,9 +21,11 @@ pub(crate) fn rendered(
     let mut project = NeverSource::new(text.as_bytes().to_vec(alloc)?, 1000);
     let mut out = NeverSink::new(alloc, 1000);
     let mut notes = NeverSink::new(alloc, 1000);
+    stock_is_steady();
     if run(
         alloc,
         &[],
+        &Stock,
         &mut project,
         &mut no_clips(alloc),
         &mut out,

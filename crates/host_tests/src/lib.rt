@@ -6,6 +6,8 @@ mod clips;
 #[cfg(test)]
 mod drawn;
 #[cfg(test)]
+mod effects;
+#[cfg(test)]
 mod files;
 #[cfg(test)]
 mod mixed;

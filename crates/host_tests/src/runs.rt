@@ -1,6 +1,7 @@
 //! Runs over sources and sinks in memory.
 ghost use Rattle.std.specs.Prelude.{◌≡◌, ◌<◌};
 
+use fx_stock::{Stock, stock_is_steady};
 use host_io::{MemSink, MemSource, NeverClips, NeverSink, NeverSource, Source, Status};
 use host_run::{ArgumentsError, DEFAULT_WORKERS, WordsError, program, read_words, run};
 use std::alloc::{AllocError, Global};
@@ -39,9 +40,9 @@ const NO_MODE: &[u8] =
 const NO_LAYER_ABOVE: &[u8] =
     b"{\"version\":1,\"depth\":8,\"root\":0,\"comps\":[{\"width\":1,\"height\":1,\"frame\":[1,24],\"frames\":1,\"layers\":[{\"matte\":\"Luma\",\"source\":{\"solid\":[1,1,255,1,2,3]}}]}]}";
 
-/// A layer with an effect, which are not drawn yet.
-const AN_EFFECT: &[u8] =
-    b"{\"version\":1,\"depth\":8,\"root\":0,\"comps\":[{\"width\":1,\"height\":1,\"frame\":[1,24],\"frames\":1,\"layers\":[{\"source\":{\"solid\":[1,1,255,1,2,3]},\"effects\":[{\"effect\":\"Invert\",\"params\":[0]}]}]}]}";
+/// A layer with an effect that the stock does not have.
+const NO_SUCH_EFFECT: &[u8] =
+    b"{\"version\":1,\"depth\":8,\"root\":0,\"comps\":[{\"width\":1,\"height\":1,\"frame\":[1,24],\"frames\":1,\"layers\":[{\"source\":{\"solid\":[1,1,255,1,2,3]},\"effects\":[{\"effect\":\"Foo\",\"params\":[0]}]}]}]}";
 
 /// What a run over memory ended with and wrote.
 #[derive(Drop)]
@@ -82,9 +83,11 @@ fn run_over(
     let mut project = MemSource::new(text.to_vec(alloc)?, piece, read_fails.to_vec(alloc)?);
     let mut out = MemSink::new(alloc, piece, write_fails.to_vec(alloc)?);
     let mut notes = MemSink::new(alloc, 7, Vec::new(alloc));
+    stock_is_steady();
     let status = run(
         alloc,
         &words,
+        &Stock,
         &mut project,
         &mut no_clips(alloc),
         &mut out,
@@ -169,7 +172,7 @@ fn refusals_write_a_line_and_no_file(rt: HostRuntime) -> Result<(), Fail> {
             Status::Project,
             "afhost: project rule 33\n",
         ),
-        ("", AN_EFFECT, Status::Project, "afhost: project rule 11\n"),
+        ("", NO_SUCH_EFFECT, Status::Project, "afhost: project rule 11\n"),
         (
             "--from|1",
             TWO_PIXELS,
@@ -244,9 +247,11 @@ fn refused_words_leave_the_source(rt: HostRuntime) -> Result<(), Fail> {
         let mut project = MemSource::new(TWO_PIXELS.to_vec(alloc)?, 64, Vec::new(alloc));
         let mut out = NeverSink::new(alloc, 64);
         let mut notes = NeverSink::new(alloc, 64);
+        stock_is_steady();
         let _ = run(
             alloc,
             &words,
+            &Stock,
             &mut project,
             &mut no_clips(alloc),
             &mut out,
@@ -271,7 +276,8 @@ fn run_over_never(
     ensures clip { result ≡ Status.ClipFault → ⊥ }
     ensures write { result ≡ Status.WriteFault → ⊥ }
 {
-    run(alloc, &[], project, clips, out, notes)
+    stock_is_steady();
+    run(alloc, &[], &Stock, project, clips, out, notes)
 }
 
 #[test]
@@ -354,9 +360,11 @@ fn each_write_of_a_note_may_fail(rt: HostRuntime) -> Result<(), Fail> {
         let mut project = NeverSource::new(TWO_PIXELS.to_vec(alloc)?, 64);
         let mut out = NeverSink::new(alloc, 64);
         let mut notes = MemSink::new(alloc, 1, vec![in alloc; call]?);
+        stock_is_steady();
         let ended = run(
             alloc,
             &words,
+            &Stock,
             &mut project,
             &mut no_clips(alloc),
             &mut out,

@@ -3,5 +3,4 @@ pub mod Nodes
 pub mod Output
 pub mod Scene
 pub mod Shown
-pub mod Steady
 pub mod Worked
