@@ -31,9 +31,17 @@ fn moved(alloc: Global, members: &str, map: &str) -> Result<Vec<u8>, Fail> {
 }
 
 /// The solid (255, 10, 20, 30), or with other channels at 16 bits, behind these effects.
-fn coloured(rt: &impl Abort, alloc: Global, depth: u32, solid: &str, rows: &[Coloured]) -> Result<(), Fail> {
+fn coloured(
+    rt: &impl Abort,
+    alloc: Global,
+    depth: u32,
+    solid: &str,
+    rows: &[Coloured],
+) -> Result<(), Fail> {
     for (effects, pixel) in rows {
-        let layer = format!(in alloc; "{{\"source\":{{\"solid\":[1,1,{solid}]}},\"effects\":[{effects}]}}")?;
+        let layer = format!(in alloc;
+            "{{\"source\":{{\"solid\":[1,1,{solid}]}},\"effects\":[{effects}]}}"
+        )?;
         let picture = rendered(alloc, depth, 1, 1, layer.as_str())?;
         assert_eq!(rt; picture.as_slice(), *pixel, "{effects}");
     }
@@ -43,38 +51,84 @@ fn coloured(rt: &impl Abort, alloc: Global, depth: u32, solid: &str, rows: &[Col
 #[test]
 fn effects_apply_in_their_order(rt: HostRuntime) -> Result<(), Fail> {
     let alloc = rt.alloc();
-    coloured(&rt, alloc, 8, "255,10,20,30", &[
-        ("", &[255, 10, 20, 30]),
-        ("{\"effect\":\"Invert\",\"params\":[0]}", &[255, 245, 235, 225]),
-        ("{\"effect\":\"Invert\",\"params\":[0]},{\"effect\":\"ChannelShift\",\"params\":[4,1,2]}", &[255, 0, 235, 225]),
-        ("{\"effect\":\"ChannelShift\",\"params\":[4,1,2]},{\"effect\":\"Invert\",\"params\":[0]}", &[255, 255, 235, 225]),
-        ("{\"effect\":\"PaletteMap\",\"sequence\":\"0a141effffff\"}", &[255, 10, 20, 30]),
-    ])?;
-    coloured(&rt, alloc, 16, "32768,16384,0,1", &[
-        ("{\"effect\":\"Invert\",\"params\":[0]}", &[128, 0, 64, 0, 128, 0, 127, 255]),
-    ])
+    coloured(
+        &rt,
+        alloc,
+        8,
+        "255,10,20,30",
+        &[
+            ("", &[255, 10, 20, 30]),
+            (
+                "{\"effect\":\"Invert\",\"params\":[0]}",
+                &[255, 245, 235, 225],
+            ),
+            (
+                "{\"effect\":\"Invert\",\"params\":[0]},{\"effect\":\"ChannelShift\",\"params\":[4,1,2]}",
+                &[255, 0, 235, 225],
+            ),
+            (
+                "{\"effect\":\"ChannelShift\",\"params\":[4,1,2]},{\"effect\":\"Invert\",\"params\":[0]}",
+                &[255, 255, 235, 225],
+            ),
+            (
+                "{\"effect\":\"PaletteMap\",\"sequence\":\"0a141effffff\"}",
+                &[255, 10, 20, 30],
+            ),
+        ],
+    )?;
+    coloured(
+        &rt,
+        alloc,
+        16,
+        "32768,16384,0,1",
+        &[(
+            "{\"effect\":\"Invert\",\"params\":[0]}",
+            &[128, 0, 64, 0, 128, 0, 127, 255],
+        )],
+    )
 }
 
 #[test]
 fn a_blur_draws_around_its_input(rt: HostRuntime) -> Result<(), Fail> {
     let alloc = rt.alloc();
-    let wide = rendered(alloc, 8, 3, 1,
+    let wide = rendered(
+        alloc,
+        8,
+        3,
+        1,
         "{\"source\":{\"solid\":[5,1,255,255,255,255]},\"x\":-1,\"effects\":[{\"effect\":\"BoxBlur\",\"params\":[2]}]}",
     )?;
-    assert_eq!(rt; wide.as_slice(), &[41, 41, 41, 41, 51, 51, 51, 51, 41, 41, 41, 41]);
-    let point = rendered(alloc, 8, 3, 1,
+    assert_eq!(rt;
+        wide.as_slice(),
+        [41, 41, 41, 41, 51, 51, 51, 51, 41, 41, 41, 41].as_slice()
+    );
+    let point = rendered(
+        alloc,
+        8,
+        3,
+        1,
         "{\"source\":{\"solid\":[1,1,255,255,255,255]},\"x\":1,\"effects\":[{\"effect\":\"BoxBlur\",\"params\":[1]}]}",
     )?;
-    assert_eq!(rt; point.as_slice(), &[28, 28, 28, 28, 28, 28, 28, 28, 28, 28, 28, 28]);
+    assert_eq!(rt;
+        point.as_slice(),
+        [28, 28, 28, 28, 28, 28, 28, 28, 28, 28, 28, 28].as_slice()
+    );
     Ok(())
 }
 
 #[test]
 fn a_shadow_lies_under_its_input(rt: HostRuntime) -> Result<(), Fail> {
-    let picture = rendered(rt.alloc(), 8, 2, 1,
+    let picture = rendered(
+        rt.alloc(),
+        8,
+        2,
+        1,
         "{\"source\":{\"solid\":[1,1,255,255,0,0]},\"effects\":[{\"effect\":\"DropShadow\",\"params\":[1,0,5000,0,0,0]}]}",
     )?;
-    assert_eq!(rt; picture.as_slice(), &[255, 255, 0, 0, 128, 0, 0, 0]);
+    assert_eq!(rt;
+        picture.as_slice(),
+        [255, 255, 0, 0, 128, 0, 0, 0].as_slice()
+    );
     Ok(())
 }
 
@@ -83,12 +137,25 @@ fn a_nested_composition_behind_effects(rt: HostRuntime) -> Result<(), Fail> {
     let alloc = rt.alloc();
     let rows: [Moved; 4] = [
         ("\"effects\":[]", &[255, 1, 2, 3, 255, 4, 5, 6, 0, 0, 0, 0]),
-        ("\"effects\":[{\"effect\":\"Offset\",\"params\":[1,0]}]", &[0, 0, 0, 0, 255, 1, 2, 3, 255, 4, 5, 6]),
-        ("\"effects\":[{\"effect\":\"Offset\",\"params\":[-1,0]}]", &[255, 4, 5, 6, 0, 0, 0, 0, 255, 1, 2, 3]),
-        ("\"effects\":[{\"effect\":\"Mosaic\",\"params\":[2]}]", &[255, 3, 4, 5, 255, 3, 4, 5, 0, 0, 0, 0]),
+        (
+            "\"effects\":[{\"effect\":\"Offset\",\"params\":[1,0]}]",
+            &[0, 0, 0, 0, 255, 1, 2, 3, 255, 4, 5, 6],
+        ),
+        (
+            "\"effects\":[{\"effect\":\"Offset\",\"params\":[-1,0]}]",
+            &[255, 4, 5, 6, 0, 0, 0, 0, 255, 1, 2, 3],
+        ),
+        (
+            "\"effects\":[{\"effect\":\"Mosaic\",\"params\":[2]}]",
+            &[255, 3, 4, 5, 255, 3, 4, 5, 0, 0, 0, 0],
+        ),
     ];
     for (members, picture) in rows {
-        assert_eq!(rt; moved(alloc, members, "0,0,0,0")?.as_slice(), picture, "{members}");
+        assert_eq!(rt;
+            moved(alloc, members, "0,0,0,0")?.as_slice(),
+            picture.as_slice(),
+            "{members}"
+        );
     }
     Ok(())
 }
@@ -106,7 +173,11 @@ fn a_map_displaces_its_input(rt: HostRuntime) -> Result<(), Fail> {
         ("255,128,0,0", &[255, 1, 2, 3, 255, 4, 5, 6, 0, 0, 0, 0]),
         ("0,0,0,0", &[255, 1, 2, 3, 255, 4, 5, 6, 0, 0, 0, 0]),
     ] {
-        assert_eq!(rt; moved(alloc, members, map)?.as_slice(), picture, "{map}");
+        assert_eq!(rt;
+            moved(alloc, members, map)?.as_slice(),
+            picture.as_slice(),
+            "{map}"
+        );
     }
     Ok(())
 }
@@ -114,20 +185,33 @@ fn a_map_displaces_its_input(rt: HostRuntime) -> Result<(), Fail> {
 #[test]
 fn a_matte_is_taken_behind_its_effects(rt: HostRuntime) -> Result<(), Fail> {
     let alloc = rt.alloc();
-    for (effects, picture) in [("", &[255, 10, 20, 30]), ("{\"effect\":\"Invert\",\"params\":[0]}", &[0, 0, 0, 0])] {
+    for (effects, picture) in [
+        ("", &[255, 10, 20, 30]),
+        ("{\"effect\":\"Invert\",\"params\":[0]}", &[0, 0, 0, 0]),
+    ] {
         let layers = format!(in alloc;
             "{{\"source\":{{\"solid\":[1,1,255,255,255,255]}},\"effects\":[{effects}]}},{{\"source\":{{\"solid\":[1,1,255,10,20,30]}},\"matte\":\"Luma\"}}"
         )?;
-        assert_eq!(rt; rendered(alloc, 8, 1, 1, layers.as_str())?.as_slice(), picture);
+        assert_eq!(rt;
+            rendered(alloc, 8, 1, 1, layers.as_str())?.as_slice(),
+            picture.as_slice()
+        );
     }
     Ok(())
 }
 
 #[test]
 fn parameters_are_read_at_the_tick(rt: HostRuntime) -> Result<(), Fail> {
-    let picture = rendered(rt.alloc(), 8, 1, 2,
+    let picture = rendered(
+        rt.alloc(),
+        8,
+        1,
+        2,
         "{\"source\":{\"solid\":[1,1,255,10,20,30]},\"effects\":[{\"effect\":\"ScaleOffset\",\"params\":[[[10000,[0,1],\"hold\"],[5000,[1,24],\"hold\"]],0]}]}",
     )?;
-    assert_eq!(rt; picture.as_slice(), &[255, 10, 20, 30, 255, 5, 10, 15]);
+    assert_eq!(rt;
+        picture.as_slice(),
+        [255, 10, 20, 30, 255, 5, 10, 15].as_slice()
+    );
     Ok(())
 }

@@ -172,7 +172,12 @@ fn refusals_write_a_line_and_no_file(rt: HostRuntime) -> Result<(), Fail> {
             Status::Project,
             "afhost: project rule 33\n",
         ),
-        ("", NO_SUCH_EFFECT, Status::Project, "afhost: project rule 11\n"),
+        (
+            "",
+            NO_SUCH_EFFECT,
+            Status::Project,
+            "afhost: project rule 11\n",
+        ),
         (
             "--from|1",
             TWO_PIXELS,
@@ -409,9 +414,11 @@ fn the_program_ends_with_the_status(rt: HostRuntime) -> Result<(), Fail> {
         let mut project = NeverSource::new(TWO_PIXELS.to_vec(alloc)?, 64);
         let mut out = NeverSink::new(alloc, 64);
         let mut notes = NeverSink::new(alloc, 64);
+        stock_is_steady();
         let ended = program(
             alloc,
             arguments,
+            &Stock,
             &mut project,
             &mut no_clips(alloc),
             &mut out,
