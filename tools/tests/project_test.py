@@ -19,6 +19,65 @@ NESTING = {**EMPTY, "layers": [{"source": {"comp": 1}}]}
 MODES = """Normal Multiply Screen Darken Lighten Difference Exclusion Add Subtract LinearBurn HardLight Overlay LinearLight
     PinLight HardMix ColorDodge ColorBurn StencilAlpha SilhouetteAlpha StencilLuma SilhouetteLuma""".split()
 MATTES = ["None", "Alpha", "AlphaInverted", "Luma", "LumaInverted"]
+EFFECTS = (*LAYER, "effects")
+SHARE, REACH, POSITION = (0, 10000), (-1024, 1024), (-32768, 32767)
+# The least and the greatest value of each parameter of an effect.
+RANGES = {
+    "Invert": [(0, 3)],
+    "Threshold": [SHARE],
+    "ChannelShift": [(0, 4)] * 3,
+    "ScaleOffset": [(0, 40000), (-10000, 10000)],
+    "Tint": [SHARE] * 7,
+    "PaletteMap": [],
+    "Offset": [POSITION] * 2,
+    "BoxBlur": [(0, 128)],
+    "Mosaic": [(1, 1024)],
+    "DropShadow": [REACH, REACH, *[SHARE] * 4],
+    "Displace": [REACH] * 2,
+}
+
+
+def effect(name, params, **more):
+    """An effect that names its own layer and has a palette of one entry, where it has to."""
+    needed = {"Displace": {"layers": [0]}, "PaletteMap": {"sequence": "00fF7f"}}.get(name, {})
+    return {"effect": name, "params": params, **needed, **more}
+
+
+def at_ends(name):
+    """The effect with the least and with the greatest values."""
+    return [effect(name, [ends[side] for ends in RANGES[name]]) for side in (0, 1)]
+
+
+def outside(name):
+    """The effect with one parameter a step outside of its range, as a value and as a keyframe."""
+    found = []
+    for place, (least, most) in enumerate(RANGES[name]):
+        for value in (least - 1, most + 1):
+            for stream in (value, [[least, [0, 1], "linear"], [value, [1, 24], "hold"]]):
+                params = [ends[0] for ends in RANGES[name]]
+                found.append(effect(name, [*params[:place], stream, *params[place + 1 :]]))
+    return found
+
+
+def miscounted(name):
+    """The effect with a parameter too few, where it has one, and too many, and with other layers than it has."""
+    params = [ends[0] for ends in RANGES[name]]
+    layers = [[], [0, 0]] if name == "Displace" else [[0]]
+    return [
+        *([effect(name, params[1:])] if params else []),
+        effect(name, [*params, 1]),
+        *[effect(name, params, layers=it) for it in layers],
+    ]
+
+
+def chain(effects):
+    """Compositions of which each shows the next one: the first behind so many effects, and the others behind eight. The last one's rank
+    is 1, those before it have 11, 21 and so on to 251, and the source in the first one has 252."""
+    counts = [effects, *[8] * 25]
+    layers = [{"source": {"comp": place + 1}, "effects": [effect("Invert", [0])] * count} for place, count in enumerate(counts)]
+    return [*[{**EMPTY, "layers": [layer]} for layer in layers], EMPTY]
+
+
 # What is changed in a project that fits, to what, and the rule of the host that is broken then.
 BROKEN = [
     (("name",), "x", 2),
@@ -66,10 +125,24 @@ BROKEN = [
     ((*COMP, "layers"), [POINT] * 129, 7),
     (LAYER, {}, 7),
     ((*LAYER, "name"), "x", 7),
-    ((*LAYER, "effects"), {}, 10),
-    ((*LAYER, "effects"), None, 10),
-    ((*LAYER, "effects"), [{}], 10),
-    ((*LAYER, "effects"), [{"effect": "Invert", "params": [0]}], 11),
+    (EFFECTS, {}, 10),
+    (EFFECTS, None, 10),
+    (EFFECTS, [{}], 10),
+    (EFFECTS, [effect("Invert", [0])] * 9, 10),
+    (EFFECTS, [{**effect("Invert", [0]), "name": "x"}], 10),
+    *[(EFFECTS, [effect(name, [0])], 11) for name in ("Foo", "invert", "", 0, None)],
+    *[(EFFECTS, [it], 13) for name in RANGES for it in miscounted(name)],
+    (EFFECTS, [{"effect": "Invert"}], 13),
+    (EFFECTS, [effect("Invert", {})], 13),
+    (EFFECTS, [effect("Displace", [0, 0], layers=["0"])], 13),
+    (EFFECTS, [effect("BoxBlur", ["1"])], 14),
+    (EFFECTS, [effect("BoxBlur", [[[1, [0, 0], "hold"]]])], 15),
+    *[(EFFECTS, [it], 37) for name in RANGES for it in outside(name)],
+    (EFFECTS, [effect("Invert", [0]), effect("Mosaic", [0])], 37),
+    *[(EFFECTS, [effect("Displace", [0, 0], layers=[index])], 38) for index in (-1, 128)],
+    *[(EFFECTS, [effect("PaletteMap", [], sequence=it)], 39) for it in ("", "00", "00ff7g", "00ff7f0", "00" * 3 * 257, 0, None)],
+    (EFFECTS, [{"effect": "PaletteMap"}], 39),
+    *[(EFFECTS, [effect(name, [ends[0] for ends in RANGES[name]], sequence="00")], 39) for name in RANGES if name != "PaletteMap"],
     ((*LAYER, "mode"), "normal", 31),
     ((*LAYER, "mode"), "Dissolve", 31),
     ((*LAYER, "mode"), "", 31),
@@ -126,6 +199,7 @@ BROKEN_AT_16 = [
     (SOLID, [1, 1, 65535, 0, 0, 0], 27),
     (SOLID, [1, 1, -1, 0, 0, 0], 27),
     ((*LAYER, "mode"), "Lighter", 31),
+    (EFFECTS, [effect("Mosaic", [1025])], 37),
     ((*LAYER, "matte"), "Alpha", 33),
 ]
 # What the host refuses and a schema cannot say.
@@ -142,6 +216,9 @@ UNSAID = [
     (("comps",), [NESTING, {**EMPTY, "layers": [{"source": {"comp": 0}}]}], 30),
     ((*LAYER, "in"), [1, 1], 34),
     ((*LAYER, "opacity"), [KEY, KEY], 35),
+    (EFFECTS, [effect("BoxBlur", [[KEY, KEY]])], 35),
+    (EFFECTS, [effect("Displace", [0, 0], layers=[1])], 38),
+    (("comps",), chain(5), 40),
     ((*COMP, "layers"), [POINT, {**POINT, "matte": "Alpha"}, {**POINT, "matte": "Luma"}], 33),
 ]
 FITTING = [
@@ -151,7 +228,12 @@ FITTING = [
     ((*LAYER, "in"), [-1, 24]),
     ((*LAYER, "out"), [0, 1]),
     ((*LAYER, "start"), [-5, 24]),
-    ((*LAYER, "effects"), []),
+    (EFFECTS, []),
+    *[(EFFECTS, [it]) for name in RANGES for it in at_ends(name)],
+    (EFFECTS, [effect("BoxBlur", [[[0, [0, 1], "ease"], [128, [1, 24], "hold"]]]), effect("Invert", [0], layers=[], sequence="")]),
+    (EFFECTS, [effect("Displace", [1, 1])] * 8),
+    (("comps",), chain(4)),
+    (EFFECTS, [effect("PaletteMap", [], sequence="00" * 3 * 256), {"effect": "PaletteMap", "sequence": "abCDef"}]),
     ((*COMP, "layers"), []),
     (("clips",), []),
     (("comps",), [NESTING, EMPTY]),
@@ -167,6 +249,7 @@ FITTING_AT_16 = [
     (SOLID, [1, 1, 32768, 32768, 0, 1]),
     (SOLID, [1, 1, 256, 256, 256, 256]),
     ((*LAYER, "mode"), "SilhouetteLuma"),
+    *[(EFFECTS, [it]) for name in RANGES for it in at_ends(name)],
     ((*COMP, "layers"), [POINT, {**POINT, "matte": "AlphaInverted"}]),
 ]
 VALIDATOR = """
@@ -258,6 +341,7 @@ class Schema(Case):
         schema = json.loads((TOP / "docs" / "project.schema.json").read_bytes())
         self.assertEqual(schema["$defs"]["mode"]["enum"], MODES)
         self.assertEqual(schema["$defs"]["matte"]["enum"], MATTES)
+        self.assertEqual(schema["$defs"]["effect"]["properties"]["effect"]["enum"], list(RANGES))
 
     def test_each_member_has_a_sentence(self):
         schema = json.loads((TOP / "docs" / "project.schema.json").read_bytes())
