@@ -1,4 +1,4 @@
-"""The pictures of examples: that scripts write what examples need, the program the pictures, and that each mode can be told."""
+"""The pictures of examples: that scripts write what examples need, the program the pictures, and that modes and effects can be told."""
 
 import itertools
 import json
@@ -7,41 +7,57 @@ from pathlib import Path
 
 from common import AFR, TOP, Case, host, pixels_of_png
 
-PROJECT = TOP / "examples" / "modes.json"
-PICTURE = TOP / "docs" / "modes.png"
-# Where the first tile begins, how far it is to the next, how large each is, and how far apart the points are that count.
-FIRST, PITCH, SIDE, STEP = 12, 104, 92, 4
+# How far apart the points of a tile are that count.
+STEP = 4
 
 
-def tiles():
-    """Points all over each of the 21 tiles, row by row."""
-    width, _, _, data = pixels_of_png(PICTURE.read_bytes())
+def tiles(name, corners, width, height):
+    """Points all over each tile of a picture, whose left top corners these are."""
+    across, _, _, data = pixels_of_png((TOP / "docs" / f"{name}.png").read_bytes())
     pixels = [data[place : place + 4] for place in range(0, len(data), 4)]
-    corners = [(FIRST + column * PITCH, FIRST + row * PITCH) for row in range(3) for column in range(7)]
     return [
-        [pixels[y * width + x] for y in range(top, top + SIDE, STEP) for x in range(left, left + SIDE, STEP)]
+        [pixels[y * across + x] for y in range(top, top + height, STEP) for x in range(left, left + width, STEP)]
         for left, top in corners
     ]
 
 
-class Modes(Case):
+class Gallery:
+    """A picture of tiles that a script makes, of the example that it writes."""
+
     def test_the_script_writes_the_example(self):
-        self.assertEqual(self.well(TOP / "examples" / "modes.py", "--project"), PROJECT.read_bytes())
+        script, example = TOP / "examples" / f"{self.name}.py", TOP / "examples" / f"{self.name}.json"
+        self.assertEqual(self.well(script, "--project"), example.read_bytes())
 
     def test_the_picture_is_what_the_program_writes(self):
         if not host():
             self.skipTest("no program is built, and no release fits")
-        data = self.well(TOP / "afhost", given=PROJECT.read_bytes())
-        self.assertEqual(pixels_of_png(self.well(AFR, "png", "-", given=data)), pixels_of_png(PICTURE.read_bytes()))
+        data = self.well(TOP / "afhost", given=(TOP / "examples" / f"{self.name}.json").read_bytes())
+        picture = (TOP / "docs" / f"{self.name}.png").read_bytes()
+        self.assertEqual(pixels_of_png(self.well(AFR, "png", "-", given=data)), pixels_of_png(picture))
 
-    def test_each_mode_can_be_told_from_the_others(self):
-        for one, other in itertools.combinations(tiles(), 2):
+    def test_each_tile_can_be_told_from_the_others(self):
+        for one, other in itertools.combinations(self.tiles(), 2):
             # A tenth of the points differs by a sixth of white in some channel.
             differing = sum(max(abs(a - b) for a, b in zip(*pair)) >= 43 for pair in zip(one, other))
             self.assertGreaterEqual(10 * differing, len(one))
 
     def test_the_picture_is_small(self):
-        self.assertLess(PICTURE.stat().st_size, 100_000)
+        self.assertLess((TOP / "docs" / f"{self.name}.png").stat().st_size, 100_000)
+
+
+class Modes(Gallery, Case):
+    name = "modes"
+
+    def tiles(self):
+        return tiles(self.name, [(12 + column * 104, 12 + row * 104) for row in range(3) for column in range(7)], 92, 92)
+
+
+class Effects(Gallery, Case):
+    name = "effects"
+
+    def tiles(self):
+        """Each with half of the gaps round it, in which blur and shadow lie."""
+        return tiles(self.name, [(14 + column * 156, 14 + row * 116) for row in range(3) for column in range(4)], 156, 116)
 
 
 class Lanterns(Case):
