@@ -1,3 +1,4 @@
 pub mod Clips
+mod KeyParts
 pub mod Nodes
 pub mod Turns

@@ -1,4 +1,5 @@
 pub mod Drawn
+pub mod Keys
 pub mod Nodes
 pub mod Output
 pub mod Scene

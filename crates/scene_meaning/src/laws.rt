@@ -1,5 +1,6 @@
 //! Laws over the definitions, each the contract of a function that does nothing.
 ghost use Rattle.scene_meaning.specs.Shown.{ShownIsOfWhatIsShown, MoreTurnsChangeNothing};
+ghost use Rattle.scene_meaning.specs.Keys.{KeysDiffer, KeyIsSpelled};
 ghost use Rattle.scene_meaning.specs.Nodes.{NodesAreDrawn};
 ghost use Rattle.scene_meaning.specs.Worked.{TwoPixelsAreDrawn, EndedIsNotDrawn, MovingIsDrawn, HalfIsDrawn, SixteenBitsAreDrawn, MatteIsDrawn, ModeIsDrawn, NestedIsDrawn, ClipIsDrawn, ClipIsWidened, ClipIsNarrowed};
 
@@ -83,4 +84,14 @@ pub fn clip_is_widened()
 #[tactic(auto, unfolding(frame_file::specs::Afr::header_bytes))]
 pub fn clip_is_narrowed()
     ensures { ClipIsNarrowed }
+{}
+
+/// Keys of different classes, nodes, asks or ticks differ.
+pub fn keys_differ()
+    ensures { KeysDiffer }
+{}
+
+/// The bytes of a key, worked by hand.
+pub fn key_is_spelled()
+    ensures { KeyIsSpelled }
 {}
