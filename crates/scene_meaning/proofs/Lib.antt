@@ -1,4 +1,5 @@
 pub mod Clips
 mod KeyParts
 pub mod Nodes
+mod Numbers
 pub mod Turns

@@ -2,10 +2,11 @@
 use Rattle.std.specs.Prelude.{◌≡◌, ℕ, ◌+◌, ◌*◌, ◌<◌, ◌^◌, ℤ, pos, ◌+ℤ◌, List, [], ◌∷◌, ◌++◌, take, unsigned_abs}
 use Rattle.std.specs.Int.{bytes_high_first, to_be_bytes, from_be_bytes, w32, w64, w128}
 use Rattle.std.specs.Int.RustNames.{FitsSigned}
-use Rattle.project_model.specs.Form.{plain_layer_count}
+use Rattle.project_model.specs.Form.{IsFormed, plain_layer_count}
 use Rattle.project_model.specs.declared.node.NodeId.{NodeId}
 use Rattle.project_model.specs.declared.node.NodeId.TheVariants.{Source, Fx, Stack}
 use Rattle.project_model.specs.declared.plain.PlainProject.{PlainProject}
+use Rattle.scene_meaning.specs.Nodes.{HasNode, IsOfLayer}
 
 -- ---- keys
 
@@ -50,3 +51,10 @@ abbrev pub node_number : PlainProject → NodeId → ℕ
 node_number project (Source comp layer) = 9 * layer_number project comp layer
 node_number project (Fx comp layer index) = 9 * layer_number project comp layer + (index + 1)
 node_number project (Stack comp) = 0
+
+-- different nodes of a project have different numbers
+abbrev pub NodeNumbersDiffer : Type 0
+NodeNumbersDiffer =
+    (project : PlainProject) (node other : NodeId)
+    → IsFormed project → HasNode project node → IsOfLayer node → HasNode project other → IsOfLayer other
+    → node_number project node ≡ node_number project other → node ≡ other

@@ -1,16 +1,36 @@
 -- What the planes of nodes are drawn from.
-use Rattle.std.specs.Prelude.{◌≡◌, ℕ, ℤ, List, length, slice_get, Some}
+use Rattle.std.specs.Prelude.{◌≡◌, ◌<◌, ℕ, ℤ, List, [], length, slice_get, Some}
+use Rattle.std.specs.Option.{option_map_or}
+use Rattle.project_model.specs.Nesting.{layers_in}
 use Rattle.rational_time.specs.Times.{tick_of}
 use Rattle.comp_stack.specs.Stack.{Plane}
-use Rattle.project_model.specs.Nodes.{node_behind, fx_at}
+use Rattle.project_model.specs.Nodes.{node_behind, fx_at, layer_at}
 use Rattle.project_model.specs.declared.item.Item.TheVariants.{Comp}
 use Rattle.project_model.specs.declared.node.NodeId.TheVariants.{Source, Fx, Stack}
 use Rattle.project_model.specs.declared.plain.PlainFx.{PlainFx}
 use Rattle.project_model.specs.declared.plain.PlainLayer.{PlainLayer}
 use Rattle.project_model.specs.declared.plain.PlainComp.{PlainComp}
+use Rattle.project_model.specs.declared.plain.PlainProject.{PlainProject}
+use Rattle.project_model.specs.declared.node.NodeId.{NodeId}
 use Rattle.effect_api.specs.declared.moment.Want.{Want}
 use Rattle.scene_meaning.specs.Drawn.{use_in, moment_at, input_plane, drawn_plane}
 use Rattle.scene_meaning.specs.Shown.{PlainScene, base_in, since, plane, sources_of, shown, layer_plane}
+
+-- the effects of the layer of these indices
+abbrev pub effects_in : PlainProject → ℕ → ℕ → List PlainFx
+effects_in project comp layer = option_map_or (λ here. here.effects) (layer_at project comp layer) []
+
+-- the project has the node
+abbrev pub HasNode : PlainProject → NodeId → Type 0
+HasNode project (Source comp layer) = layer < length (layers_in project comp)
+HasNode project (Fx comp layer index) = index < length (effects_in project comp layer)
+HasNode project (Stack comp) = comp < length project.comps
+
+-- it is the source of a layer, or an effect of one
+abbrev pub IsOfLayer : NodeId → Type 0
+IsOfLayer (Source comp layer) = Unit {0}
+IsOfLayer (Fx comp layer index) = Unit {0}
+IsOfLayer (Stack comp) = ⊥
 
 -- What the effect of this index wants, where it names these layers: its input is the layer behind the effects before it, and each
 -- layer that it names is that layer's source.

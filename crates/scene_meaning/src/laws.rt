@@ -1,6 +1,6 @@
 //! Laws over the definitions, each the contract of a function that does nothing.
 ghost use Rattle.scene_meaning.specs.Shown.{ShownIsOfWhatIsShown, MoreTurnsChangeNothing};
-ghost use Rattle.scene_meaning.specs.Keys.{KeysDiffer, KeyIsSpelled};
+ghost use Rattle.scene_meaning.specs.Keys.{KeysDiffer, KeyIsSpelled, NodeNumbersDiffer};
 ghost use Rattle.scene_meaning.specs.Nodes.{NodesAreDrawn};
 ghost use Rattle.scene_meaning.specs.Worked.{TwoPixelsAreDrawn, EndedIsNotDrawn, MovingIsDrawn, HalfIsDrawn, SixteenBitsAreDrawn, MatteIsDrawn, ModeIsDrawn, NestedIsDrawn, ClipIsDrawn, ClipIsWidened, ClipIsNarrowed};
 
@@ -94,4 +94,9 @@ pub fn keys_differ()
 /// The bytes of a key, worked by hand.
 pub fn key_is_spelled()
     ensures { KeyIsSpelled }
+{}
+
+/// Different nodes of a project have different numbers, where no layer has more than eight effects.
+pub fn node_numbers_differ()
+    ensures { NodeNumbersDiffer }
 {}
