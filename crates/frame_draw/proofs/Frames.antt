@@ -1,15 +1,12 @@
 -- Ticks of frames, and what holds of each of a list.
-use Rattle.std.proofs.Common.{◌≡◌, ℕ, zero, suc, ◌+◌, ◌*◌, ◌<◌, ◌≤◌, false, inl, inr, ℤ, pos, negsuc, ◌*ℤ◌, ◌≤ℤ◌, ◌<ℤ◌, List, length, get_or, sym, ap, subst, ◌∙◌, arith}
-use Rattle.std.specs.Prelude.{Some, option_map, slice_get, All, int_lt}
+use Rattle.std.proofs.Common.{◌≡◌, ℕ, zero, suc, ◌+◌, ◌*◌, ◌<◌, ◌≤◌, false, inl, inr, ℤ, pos, negsuc, ◌*ℤ◌, ◌≤ℤ◌, ◌<ℤ◌, List, length, sym, ap, subst, ◌∙◌, arith}
+use Rattle.std.specs.Prelude.{Some, option_map, slice_get, int_lt}
 use Rattle.std.proofs.lemmas.Bool.{cases_lt}
 use Rattle.effect_api.specs.Fits.{IsHeld}
 use Rattle.std.proofs.lemmas.Int.{ints, clamps}
 use Rattle.rational_time.specs.Times.{held_of}
-use Rattle.std.proofs.lemmas.Option.{slice_get-map, slice_get-get_or, slice_get_within, get_or_from_slice_get}
-use Rattle.project_model.specs.Plain.{plain_layer, plain_comp, plain_of}
-use Rattle.project_model.specs.Nesting.{IsAcyclic, source_rank, stack_rank}
-use Rattle.project_model.proofs.Ranked.{source_below}
-use Rattle.project_model.specs.declared.layer.Layer.{Layer}
+use Rattle.std.proofs.lemmas.Option.{slice_get-map}
+use Rattle.project_model.specs.Plain.{plain_comp, plain_of}
 use Rattle.project_model.specs.declared.comp.Comp.{Comp}
 use Rattle.project_model.specs.declared.project.Project.{Project}
 use Rattle.scene_meaning.specs.Output.{root_of, count_of, frame_count}
@@ -27,14 +24,6 @@ some_ticks (pos (suc k)) value scale base e some above = omega (arith, ints)
 some_ticks (negsuc k) (pos v) scale base e some above = absurd (omega (arith, ints, e, some, mul-le-mul_left {m = 1} {n = v} base (omega (arith, ints, some))))
 some_ticks ticks (negsuc v) scale base e some above = absurd (omega (arith, ints, some))
 
--- what holds of all holds of the one that is found
-pub found_holds : {X : Type 0} (P : X → Type 0) (xs : List X) (i : ℕ) (x : X) → All P xs → slice_get xs i ≡ Some x → P x
-found_holds P xs i x all found = subst P (get_or_from_slice_get xs i x x found) (all i x (slice_get_within xs i x found))
-
--- the one that was read stands there
-pub read_at : {X : Type 0} (xs ys : List X) (i : ℕ) (x : X) → ys ≡ xs → i < length ys → x ≡ get_or ys i x → slice_get xs i ≡ Some x
-read_at xs ys i x same here is = ap (λ l. slice_get l i) (sym same) ∙ slice_get-get_or ys i x here ∙ ap Some (sym is)
-
 -- the root in plain parts
 pub root_is : (project : Project) (root : ℕ) (comp : Comp) → root ≡ project.root → slice_get project.comps root ≡ Some comp → root_of (plain_of project) ≡ Some (plain_comp comp)
 root_is project root comp e found =
@@ -45,18 +34,6 @@ pub frame_within : (project : Project) (root frame : ℕ) (comp : Comp) → root
 frame_within project root frame comp e found h =
     let count : frame_count (plain_of project) ≡ comp.frames = ap count_of (root_is project root comp e found) in
     omega (arith, count, h)
-
--- the source of each layer has a rank below that of its composition
-pub layer_below : (project : Project) (i : ℕ) (comp : Comp) (k : ℕ) (layer : Layer) → IsAcyclic (plain_of project) → slice_get project.comps i ≡ Some comp → slice_get comp.layers k ≡ Some layer
-    → source_rank (stack_rank (plain_of project)) layer.source < stack_rank (plain_of project) i
-layer_below project i comp k layer acyclic there here =
-    source_below (plain_of project) i (plain_comp comp) k (plain_layer layer) acyclic
-    (slice_get-map plain_comp project.comps i ∙ ap (option_map plain_comp) there)
-    (slice_get-map plain_layer comp.layers k ∙ ap (option_map plain_layer) here)
-
--- a composition in plain parts
-pub comp_here : (project : Project) (i : ℕ) (comp : Comp) → slice_get project.comps i ≡ Some comp → slice_get (plain_of project).comps i ≡ Some (plain_comp comp)
-comp_here project i comp here = slice_get-map plain_comp project.comps i ∙ ap (option_map plain_comp) here
 
 -- the same composition
 pub same_found : (comps : List Comp) (i : ℕ) (one other : Comp) (k : ℕ) → slice_get comps i ≡ Some one → slice_get comps i ≡ Some other → k < length one.layers → k < length other.layers

@@ -1,4 +1,3 @@
-pub mod Boxes
 pub mod CheckedOut
 pub mod Drawing
 pub mod Frames

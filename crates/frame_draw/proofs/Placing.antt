@@ -34,9 +34,11 @@ use Rattle.project_model.specs.declared.plain.PlainLayer.{PlainLayer}
 use Rattle.project_model.specs.declared.plain.PlainComp.{PlainComp}
 use Rattle.project_model.specs.declared.layer.Layer.{Layer}
 use Rattle.scene_meaning.specs.Shown.{PlainScene, Sources, base_in, most_in, is_seen, plane_in, seen_plane, plane_behind, placed_of, serves_as_matte, placed_layers, end_of_comp, comp_shown, comp_plane, shown}
-use Rattle.frame_draw.specs.Boxes.{IsBoxed}
-use Rattle.frame_draw.proofs.Boxes.{frame_boxed}
-use Rattle.frame_draw.specs.Layers.{IsOfMatte, IsOfLayer, drawn_from, plane_at, brought}
+use Rattle.scene_meaning.specs.Boxes.{IsBoxed}
+use Rattle.scene_meaning.proofs.Boxes.{frame_boxed}
+use Rattle.scene_meaning.proofs.Inside.{there_is}
+use Rattle.frame_draw.specs.Layers.{IsOfMatte, IsOfLayer, plane_at, brought}
+use Rattle.scene_meaning.specs.Parts.{drawn_from}
 
 -- a picture that has one colour over its whole frame is that solid
 pub solid_is : (world : Picture) (w h : ℕ) (colour : Argb) (frame : Rect) → frame ≡ frame_rect w h → world.extent ≡ frame → world.part ≡ frame
@@ -60,12 +62,6 @@ pub solid_ok : {E : Type 0} (made : Result Picture E) (w h : ℕ) (colour : Argb
     → IfOk made (λ p. p.part ≡ frame) → IfOk made (λ p. (x y : ℤ) → Has frame x y → at p x y ≡ colour) → IfOk made (λ p. plane_of p ≡ solid_plane w h colour)
 solid_ok (Ok p) w h colour frame here extent part each = solid_is p w h colour frame here extent part each
 solid_ok (Err e) w h colour frame here extent part each = tt
-
--- what holds of all holds of the one that was read
-pub holds_at : {X : Type 0} (P : X → Type 0) (xs ys : List X) (i : ℕ) (x : X) → All P xs → ys ≡ xs → i < length ys → x ≡ get_or ys i x → P x
-holds_at P xs ys i x all same here is =
-    let within : i < length xs = omega (arith, ap length same) in
-    subst P (sym (is ∙ ap (λ l. get_or l i x) same)) (all i x within)
 
 -- a number within the bounds of a position fits 32 bits
 pub position_fits : (z : ℤ) → IsPosition z → FitsSigned w32 z
@@ -295,12 +291,6 @@ seen_matte {most} sources base t comp i layer above seen has shown some found sa
       ∙ ap (λ (b : Bool). if has_matte layer then (if b then Some (plane_in sources (plain_comp comp) t (plain_layer above)) else None) else None) (seen_in sources base (plain_comp comp) t (plain_layer above) seen true same is e)
       ∙ ap (λ (b : Bool). if b then Some (plane_in sources (plain_comp comp) t (plain_layer above)) else None) (sym is' ∙ e'));
 }
-
--- there is one at each place within
-pub there_is : {A : Type 0} (xs : List A) (i : ℕ) → i < length xs → (x : A) × (slice_get xs i ≡ Some x)
-there_is [] i h = absurd (omega (arith, h))
-there_is (x ∷ xs) zero h = (x, refl)
-there_is (x ∷ xs) (suc i) h = there_is xs i (omega (arith, h))
 
 -- one layer more is drawn
 pub draw_step : (most : ℕ) (sources : Sources) (comp : Comp) (t : ℤ) (count done i : ℕ) (old new : Picture) (frame : Rect) → i ≡ count - 1 - done → done < count → count ≡ length comp.layers → old.part ≡ frame

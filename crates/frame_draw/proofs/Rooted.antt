@@ -12,8 +12,9 @@ use Rattle.scene_meaning.specs.Output.{frame_tick, root_of}
 use Rattle.scene_meaning.specs.Scene.{SceneParts, plain_scene}
 use Rattle.scene_meaning.specs.Shown.{comp_plane, plane, shown}
 use Rattle.frame_draw.specs.Drawn.{IsFrame}
-use Rattle.frame_draw.proofs.Frames.{root_is, comp_here}
-use Rattle.frame_draw.proofs.Placing.{there_is}
+use Rattle.frame_draw.proofs.Frames.{root_is}
+use Rattle.scene_meaning.proofs.Inside.{comp_here}
+use Rattle.scene_meaning.proofs.Inside.{there_is}
 
 pub frame_ok : {E : Type 0} (set : EffectSet) (drawing : Drawing) (scene : SceneParts) (frame root : ℕ) (t : ℤ) (made : Result Picture E) → root ≡ scene.project.root → root < length scene.project.comps
     → ((comp : PlainComp) → root_of (plain_of scene.project) ≡ Some comp → t ≡ frame_tick (plain_of scene.project) comp frame)

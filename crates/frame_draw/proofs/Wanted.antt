@@ -1,8 +1,7 @@
 -- What effects want, and what they then draw.
-use Rattle.std.proofs.Common.{◌≡◌, ◌⊎◌, inl, inr, ℕ, zero, suc, ◌+◌, ◌*◌, ◌<◌, ◌≤◌, ℤ, pos, ◌≤ℤ◌, List, [], ◌∷◌, ◌++◌, length, map, refl, sym, ap, subst, ◌∙◌, arith}
+use Rattle.std.proofs.Common.{◌≡◌, ◌⊎◌, inl, inr, ℕ, zero, suc, ◌+◌, ◌<◌, ◌≤◌, ℤ, List, [], ◌∷◌, ◌++◌, length, map, refl, sym, ap, subst, ◌∙◌, arith}
 use Rattle.std.specs.Prelude.{slice_get, slice_index_or, Option, Some, Result, Ok, Err, IfOk}
 use Rattle.std.specs.List.{All}
-use Rattle.std.specs.Option.{option_map_or}
 use Rattle.std.proofs.lemmas.List.{length-map}
 use Rattle.std.proofs.lemmas.List.Elements.{All-nil, All-push}
 use Rattle.std.proofs.lemmas.Option.{slice_get-get_or}
@@ -12,17 +11,11 @@ use Rattle.argb_world.specs.Picture.{Picture}
 use Rattle.argb_world.specs.declared.world.World.{World}
 use Rattle.comp_stack.specs.Stack.{Plane}
 use Rattle.comp_stack.specs.Layers.{plane_of}
-use Rattle.rational_time.specs.declared.time.TheConstants.{MOST_SECONDS}
-use Rattle.project_model.specs.Effects.{Use, FitsKind}
+use Rattle.project_model.specs.Effects.{Use}
 use Rattle.project_model.specs.Plain.{plain_comp, plain_of}
-use Rattle.project_model.specs.Uses.{IsUse, AreUses}
 use Rattle.project_model.specs.declared.comp.Comp.{Comp}
-use Rattle.project_model.specs.declared.effect.EffectSchema.{EffectSchema}
-use Rattle.project_model.specs.declared.effect.FxUse.{FxUse}
-use Rattle.project_model.specs.declared.layer.Layer.{Layer}
 use Rattle.project_model.specs.declared.node.NodeId.TheVariants.{Stack}
 use Rattle.project_model.specs.declared.plain.PlainComp.{PlainComp}
-use Rattle.project_model.specs.declared.plain.PlainLayer.{PlainLayer}
 use Rattle.project_model.specs.declared.plain.PlainProject.{PlainProject}
 use Rattle.project_model.specs.declared.project.Project.{Project}
 use Rattle.effect_api.specs.declared.moment.Moment.{Moment}
@@ -31,36 +24,18 @@ use Rattle.effect_api.specs.declared.moment.Ask.{Ask}
 use Rattle.effect_api.specs.declared.checkouts.PixelsOf.TheVariants.{Drawn}
 use Rattle.effect_api.specs.Checked.{Pixels, AreChecked, IsNew, planes_of, world_of}
 use Rattle.effect_api.specs.Planes.{extents_of}
-use Rattle.effect_api.specs.Fits.{IsHeld, IsGiven}
+use Rattle.effect_api.specs.Fits.{IsGiven}
 use Rattle.effect_api.specs.Sets.{EffectSet, Drawing, IsLawfulSet}
-use Rattle.scene_meaning.specs.Drawn.{nothing, moment_at, input_plane, drawn_plane}
+use Rattle.scene_meaning.specs.Drawn.{drawn_plane}
 use Rattle.effect_api.specs.Sets.{IsSteady}
-use Rattle.scene_meaning.specs.Shown.{PlainScene, Sources, comp_plane, named_plane, plane, shown, source_plane}
-use Rattle.frame_draw.specs.Boxes.{IsBoxed}
-use Rattle.frame_draw.specs.Layers.{IsCompOf, IsLayerIn}
-use Rattle.frame_draw.specs.Uses.{AreWanted, IsDrawnPlane, IsWanted}
-use Rattle.frame_draw.proofs.Boxes.{frame_boxed, boxed_more, bounds_boxed}
+use Rattle.scene_meaning.specs.Shown.{PlainScene, comp_plane, plane, shown}
+use Rattle.scene_meaning.specs.Boxes.{IsBoxed}
+use Rattle.scene_meaning.specs.Parts.{IsCompOf}
+use Rattle.frame_draw.specs.Uses.{AreWanted, IsDrawnPlane}
+use Rattle.scene_meaning.proofs.Boxes.{frame_boxed, boxed_more, bounds_boxed}
 use Rattle.frame_draw.proofs.CheckedOut.{extents_all, extents_count, planes_count}
-use Rattle.frame_draw.proofs.Frames.{found_holds, comp_here}
-use Rattle.frame_draw.proofs.Placing.{there_is}
-
--- each use of an effect fits the set
-pub use_is : (schemas : List EffectSchema) (project : Project) (of : ℕ) (comp : Comp) (layer : Layer) (number : ℕ) (fx : FxUse) → AreUses schemas project → IsLayerIn project of comp layer → slice_get layer.effects number ≡ Some fx
-    → IsUse schemas project.base.ticks (length comp.layers) fx
-use_is schemas project of comp layer number fx uses inside found =
-    found_holds (IsUse schemas project.base.ticks (length comp.layers)) layer.effects number fx
-    (found_holds (λ (l : Layer). All (IsUse schemas project.base.ticks (length comp.layers)) l.effects) comp.layers inside.index layer
-    (found_holds (λ (k : Comp). All (λ (l : Layer). All (IsUse schemas project.base.ticks (length k.layers)) l.effects) k.layers) project.comps of comp uses inside.here)
-    inside.there) found
-
--- and is given to it at a moment
-pub given_is : (schemas : List EffectSchema) (fx : Use) (at : Moment) (base : ℕ) (frame t : ℤ) → FitsKind schemas fx → at ≡ moment_at base frame t → IsHeld base t → pos 1 ≤ℤ at.frame → at.frame ≤ℤ pos (MOST_SECONDS * base) → IsGiven schemas fx at
-given_is schemas fx at base frame t fits is held low high = record {
-  fits = fits;
-  held = subst (λ (m : Moment). IsHeld m.base.ticks m.tick.0) (sym is) held;
-  frame_low = low;
-  frame_high = subst (λ (n : ℕ). at.frame ≤ℤ pos (MOST_SECONDS * n)) (sym (ap (λ (m : Moment). m.base.ticks) is)) high;
-}
+use Rattle.scene_meaning.proofs.Inside.{found_holds, comp_here}
+use Rattle.scene_meaning.proofs.Inside.{there_is}
 
 -- what a composition shows is no larger than a picture may be
 pub stack_boxed : (project : Project) (scene : PlainScene) (index : ℕ) (t : ℤ) (world : Picture) → scene.project ≡ plain_of project → index < length project.comps → All (IsCompOf project) project.comps
@@ -170,25 +145,3 @@ pub bounds_are_boxed : {most : ℕ} {K : Type 0} (set : EffectSet) (count : ℕ)
 bounds_are_boxed set count wanted fx at wants pairs lawful given is few are =
     bounds_boxed count (extents_of (planes_of pairs)) (set.bounds fx at (extents_of (planes_of pairs))) few (extents_all (IsBoxed count) pairs are.boxed)
     (lawful.bounds_are fx at (extents_of (planes_of pairs)) given (extents_count pairs ∙ sym (planes_count pairs) ∙ ap length are.planes ∙ length-map wants wanted ∙ ap length is))
-
--- a layer that an effect names
-pub named_wanted : (sources : Sources) (comp : PlainComp) (input : ℤ → Plane) (layers : List ℕ) (number i index : ℕ) (other : PlainLayer) (t : ℤ) → number ≡ suc i → slice_get layers i ≡ Some index → slice_get comp.layers index ≡ Some other
-    → source_plane sources other t ≡ input_plane number input (named_plane sources comp) layers t
-named_wanted sources comp input layers number i index other t is found there =
-    sym (ap (λ (n : ℕ). input_plane n input (named_plane sources comp) layers t) is
-    ∙ ap (λ (o : Option ℕ). option_map_or (λ layer. named_plane sources comp layer t) o nothing) found
-    ∙ ap (λ (o : Option PlainLayer). option_map_or (λ layer. source_plane sources layer t) o nothing) there)
-
--- wants that a set lists
-pub wants_are_wanted : (set : EffectSet) (fx : Use) (at : Moment) (wants : List Want) (base : ℕ) → IsLawfulSet set → IsGiven set.schemas fx at → wants ≡ set.wants fx at → at.base.ticks ≡ base → All (IsWanted (length fx.layers) base) wants × (length wants ≤ 16)
-wants_are_wanted set fx at wants base lawful given is same =
-    let are = lawful.wants_are fx at given in (
-      subst (λ (ws : List Want). All (IsWanted (length fx.layers) base) ws) (sym is)
-          (λ k d within.
-          let want = are.each k d within in
-          record {
-            input_is = subst (λ (n : ℕ). (slice_index_or (set.wants fx at) k d).input ≤ n) (sym given.fits.layers_are) want.input_is;
-            held = subst (λ (b : ℕ). IsHeld b (slice_index_or (set.wants fx at) k d).tick.0) same want.held;
-          }),
-      subst (λ (ws : List Want). length ws ≤ 16) (sym is) are.few,
-    )

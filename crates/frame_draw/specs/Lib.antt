@@ -1,4 +1,3 @@
-pub mod Boxes
 pub mod Drawn
 pub mod Kept
 pub mod Layers

@@ -7,21 +7,20 @@ ghost use Rattle.project_model.specs.Bounds.{most_of, most_frames};
 ghost use Rattle.project_model.specs.Sound.{IsPictureSize, IsSoundClip};
 ghost use Rattle.comp_stack.specs.Layers.{plane_of};
 ghost use Rattle.effect_api.specs.Sets.{EffectSet, Drawing};
-ghost use Rattle.frame_draw.specs.Boxes.{IsBoxed};
+ghost use Rattle.scene_meaning.specs.Boxes.{IsBoxed};
 ghost use Rattle.scene_meaning.specs.Scene.{plain_scene};
 ghost use Rattle.scene_meaning.specs.Shown.{base_in, clip_plane, picture_at};
 ghost use Rattle.rational_time.specs.Times.{tick_of};
 ghost use Rattle.project_model.specs.Plain.{plain_of};
 ghost use Rattle.frame_draw.specs.Kept.{HasRows, picture_among};
 
-use crate::layers::{base_of, frame_rect};
 use argb_pixel::{Pixel, Transparent};
 use argb_world::World;
 use frame_file::Clip;
 use host_io::Memory;
 use project_model::ClipUse;
 use rational_time::{Tick, TimeBase, frame_of, to_tick};
-use scene_meaning::Scene;
+use scene_meaning::{Scene, base_of, clip_use_at, frame_rect};
 use std::alloc::Global;
 
 /// What the clip of an index shows at a tick of its own: the picture in which the tick lies, and nothing where there is none.
@@ -39,15 +38,6 @@ pub(crate) fn clip_world<const MAX: u32>(
     let declared = clip_use_at(scene, index);
     let picture = frame_of(tick, frame_ticks(base_of(scene), declared));
     picture_world(alloc, scene.clip(index), picture)
-}
-
-// The declaration of the clip of an index.
-fn clip_use_at(scene: &Scene, index: u32) -> &ClipUse
-    requires { index < length scene.now.project.clips }
-    ensures here { slice_get scene.now.project.clips index ≡ Some result.now }
-    ensures sound { IsSoundClip (base_in (plain_of scene.now.project)) result.now }
-{
-    &scene.project().clips.as_slice()[index as usize]
 }
 
 // How many ticks a picture of the clip lasts.

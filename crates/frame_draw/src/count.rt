@@ -1,15 +1,13 @@
 //! How often a frame uses what its compositions show.
 ghost use Rattle.std.specs.Prelude.{◌<◌, length};
-ghost use Rattle.frame_draw.specs.Layers.{IsCompOf, IsLayerIn, IsLayerOf};
+ghost use Rattle.scene_meaning.specs.Parts.{IsCompOf, IsLayerIn, IsLayerOf};
 
-use crate::layers::{
-    base_of, comp_at, has_matte, is_in_time, is_seen, layer_at, serves_as_matte, since_start,
-};
+use crate::layers::{has_matte, is_in_time, is_seen, serves_as_matte, since_start};
 use crate::planes::{Use, add_use};
 use host_io::Memory;
 use project_model::{Comp, Item, Layer};
 use rational_time::Tick;
-use scene_meaning::Scene;
+use scene_meaning::{Scene, base_of, comp_at, layer_at};
 
 /// Notes the uses that a composition makes of others at a tick, and those that these make in turn, each once.
 #[cycle(count)]

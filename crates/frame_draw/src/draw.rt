@@ -10,17 +10,19 @@ ghost use Rattle.project_model.specs.Uses.{IsUse};
 ghost use Rattle.project_model.specs.declared.node.NodeId.TheVariants.{Stack};
 ghost use Rattle.effect_api.specs.Fits.{IsHeld};
 ghost use Rattle.scene_meaning.specs.Shown.{base_in, plane, plane_behind, plane_in, source_plane, end_of_comp, fx_plane};
-ghost use Rattle.frame_draw.specs.Boxes.{IsBoxed};
+ghost use Rattle.scene_meaning.specs.Boxes.{IsBoxed};
 ghost use Rattle.frame_draw.specs.Kept.{AreRight};
-ghost use Rattle.frame_draw.specs.Layers.{IsCompOf, IsLayerOf, IsLayerIn, IsOfMatte, IsOfLayer, drawn_from, brought};
-ghost use Rattle.frame_draw.specs.Uses.{AreDrawn, AreWanted, IsDrawable, IsWanted, wanted_by};
+ghost use Rattle.scene_meaning.specs.Parts.{IsCompOf, IsLayerOf, IsLayerIn, drawn_from};
+ghost use Rattle.frame_draw.specs.Layers.{IsOfMatte, IsOfLayer, brought};
+ghost use Rattle.frame_draw.specs.Uses.{AreDrawn, AreWanted, IsDrawable};
+ghost use Rattle.effect_api.specs.Wants.{IsWant};
+ghost use Rattle.scene_meaning.specs.Parts.{wanted_by};
 
 use crate::alone::Alone;
 use crate::clips::clip_world;
-use crate::effects::{draw_effect, give_back, moment_of};
+use crate::effects::{draw_effect, give_back};
 use crate::layers::{
-    base_of, comp_at, frame_rect, has_matte, is_in_time, is_seen, layer_at, serves_as_matte,
-    shown_at, since_start, solid_world,
+    has_matte, is_in_time, is_seen, serves_as_matte, shown_at, since_start, solid_world,
 };
 use crate::planes::{Kept, Planes, copied, find_kept, spend_use};
 use argb_pixel::Pixel;
@@ -30,7 +32,7 @@ use effect_api::{Checkouts, Draw, Pixels, Want, set_is_lawful};
 use host_io::Memory;
 use project_model::{Comp, FxUse, Item, Layer};
 use rational_time::Tick;
-use scene_meaning::{HasSet, Means, Scene};
+use scene_meaning::{HasSet, Means, Scene, base_of, comp_at, frame_rect, layer_at, moment_of};
 use std::alloc::Global;
 
 /// What the composition of an index shows at a tick, over its frame.
@@ -298,7 +300,7 @@ fn check_out<E: Draw<MAX>, const MAX: u32>(
     requires layer { IsLayerIn scene.now.project of comp.now layer.now }
     requires number { number < length layer.now.effects }
     requires layers { All (λ index. index < length comp.now.layers) fx.now.layers }
-    requires wants { All (IsWanted (length fx.now.layers) (base_in (plain_of scene.now.project))) wants.now }
+    requires wants { All (IsWant (length fx.now.layers) (base_in (plain_of scene.now.project))) wants.now }
     requires few { length wants.now ≤ 16 }
     requires kept { AreRight (⟦<E as Means<MAX>>⟧.scene scene.now) planes.old.kept.items }
     ensures wanted { IfOk result (λ pixels. AreWanted number
@@ -341,7 +343,7 @@ fn wanted_world<E: Draw<MAX>, const MAX: u32>(
     requires layer { IsLayerIn scene.now.project of comp.now layer.now }
     requires number { number < length layer.now.effects }
     requires layers { All (λ index. index < length comp.now.layers) fx.now.layers }
-    requires want { IsWanted (length fx.now.layers) (base_in (plain_of scene.now.project)) want }
+    requires want { IsWant (length fx.now.layers) (base_in (plain_of scene.now.project)) want }
     requires kept { AreRight (⟦<E as Means<MAX>>⟧.scene scene.now) planes.old.kept.items }
     ensures plane { IfOk result (λ world. plane_of world
         ≡ wanted_by (drawn_from (⟦<E as Means<MAX>>⟧.scene scene.now)) (plain_comp comp.now) (plain_layer layer.now) number fx.now.layers want) }

@@ -1,18 +1,14 @@
 //! What an effect draws from what was drawn for it.
-ghost use Rattle.std.specs.Prelude.{◌≡◌, ◌≤◌, ◌≤ℤ◌, ◌*◌, [], pos, length, IfOk};
+ghost use Rattle.std.specs.Prelude.{◌≡◌, ◌≤◌, [], length, IfOk};
 ghost use Rattle.std.specs.List.{All};
 ghost use Rattle.geom_rect.specs.Rect.{area_of};
 ghost use Rattle.argb_pixel.specs.Depth.{IsDepth};
 ghost use Rattle.argb_world.specs.Picture.{greatest_part};
 ghost use Rattle.comp_stack.specs.Layers.{plane_of};
-ghost use Rattle.rational_time.specs.Times.{tick_of};
-ghost use Rattle.rational_time.specs.declared.time.TheConstants.{MOST_SECONDS};
 ghost use Rattle.project_model.specs.Effects.{use_of};
-ghost use Rattle.project_model.specs.Sound.{IsWritten};
 ghost use Rattle.effect_api.specs.Checked.{AreChecked, planes_of};
 ghost use Rattle.effect_api.specs.Fits.{IsBased, IsGiven};
 ghost use Rattle.effect_api.specs.Planes.{HasSides, IsPlane, extents_of};
-ghost use Rattle.scene_meaning.specs.Drawn.{moment_at};
 ghost use Rattle.frame_draw.specs.Uses.{AreDrawn, IsDrawnPlane};
 
 use crate::alone::Alone;
@@ -20,25 +16,8 @@ use argb_world::World;
 use effect_api::{Checkouts, Draw, Moment, Pixels, drawing_is_lawful};
 use geom_rect::Rect;
 use host_io::Memory;
-use project_model::{Comp, FxUse};
-use rational_time::{Tick, TimeBase, to_tick};
+use project_model::FxUse;
 use std::alloc::Global;
-
-/// The moment of an effect in a composition at a tick.
-pub(crate) fn moment_of(base: TimeBase, comp: &Comp, tick: Tick) -> Moment
-    requires frame { IsWritten base.ticks comp.now.frame }
-    requires some { pos 1 ≤ℤ comp.now.frame.value }
-    requires base { 1 ≤ base.ticks }
-    ensures moment { result ≡ moment_at base.ticks (tick_of base.ticks comp.now.frame) tick.0 }
-    ensures low { pos 1 ≤ℤ result.frame }
-    ensures high { result.frame ≤ℤ pos (MOST_SECONDS * base.ticks) }
-{
-    Moment {
-        base,
-        tick,
-        frame: to_tick(base, comp.frame).0,
-    }
-}
 
 /// What an effect draws over all of its bounds, from what was checked out for it.
 pub(crate) fn draw_effect<E: Draw<MAX>, const MAX: u32>(

@@ -11,13 +11,12 @@ ghost use Rattle.frame_draw.specs.Drawn.{IsFrame};
 
 use crate::count::count_uses;
 use crate::draw::draw_comp;
-use crate::layers::{base_of, comp_at};
 use crate::planes::Planes;
 use argb_world::World;
 use effect_api::Draw;
 use host_io::Memory;
 use rational_time::{Tick, frame_tick, to_tick};
-use scene_meaning::{HasSet, Means, Scene};
+use scene_meaning::{HasSet, Means, Scene, base_of, comp_at};
 use std::alloc::Global;
 
 /// The picture of a frame of the scene's root, over the root's frame. The root has the frame, counted from 0, and `MAX` is the

@@ -1,80 +1,25 @@
 //! Layers at a tick.
-ghost use Rattle.std.specs.Prelude.{◌≡◌, ◌≤◌, ◌<◌, ◌<ℤ◌, IsTrue, ◌&&◌, int_le, int_lt, pos, ◌*ℤ◌, length, All, IfOk, Some, slice_get};
-ghost use Rattle.geom_rect.specs.Rect as rect;
+ghost use Rattle.std.specs.Prelude.{◌≡◌, ◌<◌, ◌<ℤ◌, ◌&&◌, int_le, int_lt, pos, ◌*ℤ◌, length, IfOk};
 ghost use Rattle.argb_pixel.specs.Depth.{IsDepth};
-ghost use Rattle.project_model.specs.Bounds.{greatest_base};
-ghost use Rattle.project_model.specs.Nesting.{IsAcyclic};
-ghost use Rattle.project_model.specs.declared.comp.Comp.{Comp};
-ghost use Rattle.project_model.specs.Plain.{plain_layer, plain_comp, plain_of};
-ghost use Rattle.project_model.specs.Sound.{IsPictureSize, IsWritten, MayBeWritten, IsMadeLayer, IsSoundComp};
+ghost use Rattle.project_model.specs.Plain.{plain_layer, plain_comp};
+ghost use Rattle.project_model.specs.Sound.{IsPictureSize, IsWritten, MayBeWritten, IsMadeLayer};
 ghost use Rattle.comp_stack.specs.Stack.{solid_plane};
 ghost use Rattle.comp_stack.specs.Layers.{IsShown, plane_of, placed_of};
-ghost use Rattle.scene_meaning.specs.Scene.{EndsInTime};
 ghost use Rattle.scene_meaning.specs.Shown as meaning;
 ghost use Rattle.project_model.specs.Rules as rules;
 ghost use Rattle.effect_api.specs.Fits.{IsHeld};
-ghost use Rattle.frame_draw.specs.Boxes.{IsBoxed};
-ghost use Rattle.frame_draw.specs.Layers.{IsCompOf, IsLayerOf, IsLayerIn, plane_at};
+ghost use Rattle.scene_meaning.specs.Boxes.{IsBoxed};
+ghost use Rattle.frame_draw.specs.Layers.{plane_at};
 
 use argb_pixel::Pixel;
 use argb_world::World;
 use comp_stack::Shown;
-use geom_rect::Rect;
 use host_io::Memory;
 use project_model::{Comp, Layer};
 use rational_time::{Tick, TimeBase, held, to_tick};
-use scene_meaning::Scene;
+use scene_meaning::frame_rect;
 use std::alloc::Global;
 use track_matte::Matte;
-
-/// The rectangle of this width and height at the origin.
-pub(crate) fn frame_rect(width: u32, height: u32) -> Rect
-    requires width { width ≤ 4096 }
-    requires height { height ≤ 4096 }
-    ensures { result ≡ rect.frame_rect width height }
-{
-    Rect {
-        left: 0,
-        top: 0,
-        right: width as i32,
-        bottom: height as i32,
-    }
-}
-
-/// The ticks of a second in a scene.
-pub(crate) fn base_of(scene: &Scene) -> TimeBase
-    ensures base { result ≡ scene.now.project.base }
-    ensures ticks { result.ticks ≡ meaning.base_in (plain_of scene.now.project) }
-    ensures some { 1 ≤ result.ticks }
-    ensures bound { result.ticks ≤ greatest_base }
-    ensures nesting { IsAcyclic (plain_of scene.now.project) }
-    ensures comps { All (IsCompOf scene.now.project) scene.now.project.comps }
-{
-    scene.project().base
-}
-
-/// The composition of an index.
-pub(crate) fn comp_at(scene: &Scene, index: u32) -> &Comp
-    requires { index < length scene.now.project.comps }
-    ensures here { slice_get scene.now.project.comps index ≡ Some result.now }
-    ensures sound { IsCompOf scene.now.project result.now }
-    ensures ends { EndsInTime result.now }
-    ensures nesting { IsAcyclic (plain_of scene.now.project) }
-{
-    &scene.project().comps.as_slice()[index as usize]
-}
-
-/// The layer of an index in a composition, whose source has a rank below that of the composition.
-pub(crate) fn layer_at(scene: &Scene, of: u32, index: usize) -> &Layer
-    requires comp { of < length scene.now.project.comps }
-    requires layer { (comp : Comp) → slice_get scene.now.project.comps of ≡ Some comp → index < length comp.layers }
-    ensures here { (comp : Comp) → slice_get scene.now.project.comps of ≡ Some comp → slice_get comp.layers index ≡ Some result.now }
-    ensures sound { IsLayerOf scene.now.project result.now }
-    ensures inside { (comp : Comp) → slice_get scene.now.project.comps of ≡ Some comp → IsLayerIn scene.now.project of comp result.now }
-{
-    let comp = comp_at(scene, of);
-    &comp.layers.as_slice()[index]
-}
 
 /// Whether a tick is within a composition's time.
 pub(crate) fn is_in_time(base: TimeBase, comp: &Comp, tick: Tick) -> bool

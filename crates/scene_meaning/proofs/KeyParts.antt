@@ -1,5 +1,5 @@
 -- Keys of different parts differ.
-use Rattle.std.proofs.Common.{◌≡◌, ℕ, ◌+◌, ◌*◌, ◌<◌, ◌^◌, ℤ, pos, negsuc, ◌+ℤ◌, sym, ◌∙◌, w32, w64, arith}
+use Rattle.std.proofs.Common.{◌≡◌, ℕ, ◌+◌, ◌*◌, ◌<◌, ◌^◌, ℤ, pos, ◌+ℤ◌, sym, ◌∙◌, w32, w64, arith}
 use Rattle.std.specs.Prelude.{unsigned_abs}
 use Rattle.std.specs.Int.{to_be_bytes, from_be_bytes}
 use Rattle.std.specs.Int.RustNames.{FitsSigned}

@@ -1,5 +1,9 @@
+pub mod Boxes
 pub mod Clips
+mod Extents
+pub mod Inside
 mod KeyParts
 pub mod Nodes
 mod Numbers
 pub mod Turns
+pub mod Uses

@@ -36,14 +36,14 @@ behind_more sources comp layer effects k fx found = fold_more (fx_plane sources 
 abbrev from : PlainScene → Sources
 from scene = sources_of scene (shown scene)
 
-named_is : (scene : PlainScene) (comp other : ℕ) (here : PlainComp) (t : ℤ) → slice_get scene.project.comps comp ≡ Some here → plane scene (Source comp other) t ≡ named_plane (from scene) here other t
+pub named_is : (scene : PlainScene) (comp other : ℕ) (here : PlainComp) (t : ℤ) → slice_get scene.project.comps comp ≡ Some here → plane scene (Source comp other) t ≡ named_plane (from scene) here other t
 named_is scene comp other here t found = ap (λ (o : Option PlainComp). source_node (from scene) o other t) found
 
-layer_named : (scene : PlainScene) (layer : ℕ) (here : PlainComp) (it : PlainLayer) (t : ℤ) → slice_get here.layers layer ≡ Some it → named_plane (from scene) here layer t ≡ source_plane (from scene) it t
+pub layer_named : (scene : PlainScene) (layer : ℕ) (here : PlainComp) (it : PlainLayer) (t : ℤ) → slice_get here.layers layer ≡ Some it → named_plane (from scene) here layer t ≡ source_plane (from scene) it t
 layer_named scene layer here it t found = ap (λ (o : Option PlainLayer). option_map_or (λ l. source_plane (from scene) l t) o nothing) found
 
 -- the node behind so many effects
-behind_is : (scene : PlainScene) (comp layer before : ℕ) (here : PlainComp) (it : PlainLayer) (t : ℤ) → slice_get scene.project.comps comp ≡ Some here → slice_get here.layers layer ≡ Some it → before ≤ length it.effects
+pub behind_is : (scene : PlainScene) (comp layer before : ℕ) (here : PlainComp) (it : PlainLayer) (t : ℤ) → slice_get scene.project.comps comp ≡ Some here → slice_get here.layers layer ≡ Some it → before ≤ length it.effects
     → plane scene (node_behind comp layer before) t ≡ plane_behind (from scene) here it (take before it.effects) t
 behind_is scene comp layer zero here it t found there few = named_is scene comp layer here t found ∙ layer_named scene layer here it t there
 behind_is scene comp layer (suc k) here it t found there few =

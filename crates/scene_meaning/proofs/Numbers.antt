@@ -1,26 +1,23 @@
 -- The numbers of a scene's nodes.
-use Rattle.std.proofs.Common.{◌≡◌, ◌⊎◌, inl, inr, ℕ, zero, suc, ◌+◌, ◌*◌, ◌<◌, ◌≤◌, List, [], ◌∷◌, length, map, take, refl, sym, ap, subst, ◌∙◌, arith}
-use Rattle.std.specs.Prelude.{slice_get, Option, Some, None}
+use Rattle.std.proofs.Common.{◌≡◌, ℕ, zero, suc, ◌+◌, ◌<◌, ◌≤◌, List, [], ◌∷◌, length, map, take, refl, ap, ◌∙◌, arith}
+use Rattle.std.specs.Prelude.{slice_get}
 use Rattle.std.specs.List.{All}
 use Rattle.std.specs.Option.{option_map_or}
 use Rattle.std.proofs.lemmas.List.{length-map}
-use Rattle.std.proofs.lemmas.Bool.{cases_lt}
-use Rattle.std.proofs.lemmas.Option.{slice_get_within}
 use Rattle.std.proofs.lemmas.List.Elements.{All-head, All-tail}
 use Rattle.project_model.specs.Count.{layer_count}
-use Rattle.project_model.specs.Form.{IsFormed, IsFormedComp, IsFormedLayer, plain_layer_count}
+use Rattle.project_model.specs.Form.{IsFormedComp, IsFormedLayer, plain_layer_count}
 use Rattle.project_model.specs.Nesting.{layers_in}
 use Rattle.project_model.specs.Plain.{plain_comp, plain_fx, plain_layer}
 use Rattle.project_model.specs.declared.comp.Comp.{Comp}
 use Rattle.project_model.specs.declared.layer.Layer.{Layer}
-use Rattle.project_model.specs.declared.node.NodeId.{NodeId}
 use Rattle.project_model.specs.declared.node.NodeId.TheVariants.{Source, Fx, Stack}
 use Rattle.project_model.specs.declared.plain.PlainFx.{PlainFx}
 use Rattle.project_model.specs.declared.plain.PlainComp.{PlainComp}
 use Rattle.project_model.specs.declared.plain.PlainLayer.{PlainLayer}
 use Rattle.project_model.specs.declared.plain.PlainProject.{PlainProject}
 use Rattle.scene_meaning.specs.Keys.{NodeNumbersDiffer, layer_number}
-use Rattle.scene_meaning.specs.Nodes.{HasNode, effects_in}
+use Rattle.scene_meaning.specs.Nodes.{effects_in}
 
 -- ---- the count of layers
 

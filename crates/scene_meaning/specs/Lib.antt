@@ -1,7 +1,10 @@
+pub mod Boxes
 pub mod Drawn
+pub mod Extents
 pub mod Keys
 pub mod Nodes
 pub mod Output
+pub mod Parts
 pub mod Scene
 pub mod Shown
 pub mod Worked

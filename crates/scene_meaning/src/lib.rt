@@ -1,10 +1,12 @@
 //! What a project means: the picture of a composition at each tick, and the file of its frames.
 #![tactic(auto)]
 
+mod extent;
 mod keys;
 mod laws;
 mod means;
 mod number;
+mod parts;
 mod scene;
 
 pub use keys::key_of;
@@ -15,4 +17,5 @@ pub use laws::{
     shown_is_of_what_is_shown, sixteen_bits_are_drawn, two_pixels_are_drawn,
 };
 pub use means::{HasSet, Means};
+pub use parts::{base_of, clip_use_at, comp_at, frame_rect, layer_at, moment_of};
 pub use scene::Scene;

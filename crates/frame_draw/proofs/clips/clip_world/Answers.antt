@@ -4,7 +4,8 @@ use Rattle.std.proofs.lemmas.Int.{to_z-of_z}
 use Rattle.project_model.specs.Sound.{IsSoundClip}
 use Rattle.rational_time.specs.Times.{frame_at, tick_of}
 use Rattle.scene_meaning.specs.Scene.{plain_scene}
-use Rattle.frame_draw.proofs.Drawing.{shaped, plane_ok, most_is_depth}
+use Rattle.frame_draw.proofs.Drawing.{shaped}
+use Rattle.frame_draw.proofs.Drawing.{plane_ok, most_is_depth}
 use Rattle.frame_draw.proofs.Placing.{boxed_ok}
 use Rattle.frame_draw.proofs.clips.clip_world.Goals as goal
 

@@ -23,14 +23,19 @@ use Rattle.effect_api.specs.Sets.{EffectSet, Drawing}
 use Rattle.scene_meaning.specs.Scene.{plain_scene}
 use Rattle.scene_meaning.proofs.Nodes.{behind_more}
 use Rattle.scene_meaning.specs.Shown.{base_in, clip_plane, fx_plane, placed_layers, plane_behind, plane_of_item, since}
-use Rattle.frame_draw.specs.Uses.{AreDrawn, AreWanted, IsDrawn, wanted_by}
+use Rattle.frame_draw.specs.Uses.{AreDrawn, AreWanted, IsDrawn}
+use Rattle.scene_meaning.specs.Parts.{wanted_by}
 use Rattle.frame_draw.proofs.CheckedOut.{take_push}
-use Rattle.frame_draw.proofs.Boxes.{boxed_area}
+use Rattle.scene_meaning.proofs.Boxes.{boxed_area}
 use Rattle.frame_draw.proofs.Drawing.{most_is_depth}
-use Rattle.frame_draw.specs.Layers.{drawn_from, brought}
-use Rattle.frame_draw.proofs.Frames.{comp_here, read_at, same_found}
-use Rattle.frame_draw.proofs.Wanted.{use_is, given_is, stack_fits, length_push, wanted_more, new_number, are_checked, fx_drawn, plane_by, drawn_boxed, boxed_up, bounds_are_boxed, named_wanted, wants_are_wanted}
-use Rattle.frame_draw.proofs.Placing.{unseen_brings, matte_brings, seen_brings, unseen_matte, seen_matte, draw_step, out_of_time, in_time, placed_in, there_is}
+use Rattle.scene_meaning.specs.Parts.{drawn_from}
+use Rattle.frame_draw.specs.Layers.{brought}
+use Rattle.scene_meaning.proofs.Inside.{comp_here, read_at}
+use Rattle.frame_draw.proofs.Frames.{same_found}
+use Rattle.scene_meaning.proofs.Uses.{use_is, given_is, named_wanted, wants_are_wanted}
+use Rattle.frame_draw.proofs.Wanted.{stack_fits, length_push, wanted_more, new_number, are_checked, fx_drawn, plane_by, drawn_boxed, boxed_up, bounds_are_boxed}
+use Rattle.frame_draw.proofs.Placing.{unseen_brings, matte_brings, seen_brings, unseen_matte, seen_matte, draw_step, out_of_time, in_time, placed_in}
+use Rattle.scene_meaning.proofs.Inside.{there_is}
 use Rattle.frame_draw.proofs.draw.+draw.Goals as goal
 use Rattle.frame_draw.proofs.draw.+draw.Goals.{draw_layer-then-not-is_seen-via-then-not-is_seen, draw_layer-then-not-is_seen-via-else-not-is_seen+then-serves_as_matte}
 

@@ -10,8 +10,9 @@ use Rattle.scene_meaning.specs.Scene.{plain_scene}
 use Rattle.scene_meaning.specs.Shown.{placed_layers}
 use Rattle.frame_draw.specs.Kept.{AreRight}
 use Rattle.project_model.specs.Plain.{plain_layer}
-use Rattle.frame_draw.specs.Layers.{drawn_from}
-use Rattle.frame_draw.specs.Uses.{AreDrawn, AreWanted, wanted_by}
+use Rattle.scene_meaning.specs.Parts.{drawn_from}
+use Rattle.frame_draw.specs.Uses.{AreDrawn, AreWanted}
+use Rattle.scene_meaning.specs.Parts.{wanted_by}
 use Rattle.project_model.specs.Nesting.{stack_rank, source_rank}
 use Rattle.frame_draw.proofs.draw.+draw.Given as goal
 

@@ -1,7 +1,6 @@
-use Rattle.std.proofs.Common.{◌≡◌, ◌+◌, ◌<◌, ◌≤◌, take, sym, ap, ◌∙◌, w32, Fits, arith}
-use Rattle.project_model.specs.Bounds.{most_layers_in_all}
+use Rattle.std.proofs.Common.{◌+◌, take, sym, ap, ◌∙◌, arith}
 use Rattle.project_model.specs.Count.{layer_count}
-use Rattle.scene_meaning.proofs.Numbers.{comp_within, layer_within, counted_before}
+use Rattle.scene_meaning.proofs.Numbers.{layer_within, counted_before}
 use Rattle.scene_meaning.proofs.number.number_of_layer.Goals as goal
 
 pub count_layers-requires : goal.count_layers-requires

@@ -1,5 +1,4 @@
-use Rattle.std.proofs.Common.{◌<◌, ◌≤◌, ◌≡◌, length, subst, ap, arith}
-use Rattle.project_model.specs.Bounds.{most_layers_in_all}
+use Rattle.std.proofs.Common.{◌<◌, length, subst, arith}
 use Rattle.project_model.specs.Plain.{plain_of}
 use Rattle.project_model.specs.declared.node.NodeId.{NodeId}
 use Rattle.scene_meaning.specs.Nodes.{HasNode, effects_in}

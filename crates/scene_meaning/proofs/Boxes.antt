@@ -12,7 +12,7 @@ use Rattle.argb_world.specs.Picture.{greatest_part}
 use Rattle.argb_world.proofs.Places.{area_within}
 use Rattle.effect_api.specs.Planes.{HasSides, cover_all}
 use Rattle.effect_api.specs.Wants.{IsBounds}
-use Rattle.frame_draw.specs.Boxes.{box_of, IsBoxed}
+use Rattle.scene_meaning.specs.Boxes.{box_of, IsBoxed}
 
 -- pictures of this size
 pub frame_boxed : (w h : ℕ) → w ≤ 4096 → h ≤ 4096 → IsBoxed 0 (frame_rect w h)

@@ -1,10 +1,10 @@
 use Rattle.std.proofs.Common.{◌≡◌, ◌<◌, length, Some, subst, ap, arith}
 use Rattle.std.specs.Prelude.{slice_get}
 use Rattle.project_model.specs.declared.comp.Comp.{Comp}
-use Rattle.frame_draw.specs.Layers.{IsLayerOf, IsLayerIn}
-use Rattle.frame_draw.proofs.Frames.{read_at, layer_below}
-use Rattle.frame_draw.proofs.Placing.{holds_at}
-use Rattle.frame_draw.proofs.layers.layer_at.Goals as goal
+use Rattle.scene_meaning.specs.Parts.{IsLayerOf, IsLayerIn}
+use Rattle.scene_meaning.proofs.Inside.{read_at, layer_below}
+use Rattle.scene_meaning.proofs.Inside.{holds_at}
+use Rattle.scene_meaning.proofs.parts.layer_at.Goals as goal
 
 pub returns-clause-here : goal.returns-clause-here
 returns-clause-here c =

@@ -3,8 +3,8 @@ use Rattle.project_model.specs.Plain.{plain_of}
 use Rattle.project_model.specs.Sound.{IsSoundClip}
 use Rattle.project_model.specs.declared.project.Project.{Project}
 use Rattle.scene_meaning.specs.Shown.{base_in}
-use Rattle.frame_draw.proofs.Placing.{holds_at}
-use Rattle.frame_draw.proofs.clips.clip_use_at.Goals as goal
+use Rattle.scene_meaning.proofs.Inside.{holds_at}
+use Rattle.scene_meaning.proofs.parts.clip_use_at.Goals as goal
 
 pub returns-clause-sound : goal.returns-clause-sound
 returns-clause-sound c =

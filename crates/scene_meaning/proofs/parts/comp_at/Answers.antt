@@ -1,7 +1,7 @@
 use Rattle.std.proofs.Common.{◌<◌, length, rules}
 use Rattle.scene_meaning.specs.Scene.{EndsInTime}
-use Rattle.frame_draw.proofs.Placing.{holds_at}
-use Rattle.frame_draw.proofs.layers.comp_at.Goals as goal
+use Rattle.scene_meaning.proofs.Inside.{holds_at}
+use Rattle.scene_meaning.proofs.parts.comp_at.Goals as goal
 
 pub returns-clause-ends : goal.returns-clause-ends
 returns-clause-ends c =
