@@ -8,17 +8,17 @@ use Rattle.std.proofs.lemmas.Nat.{from_be_bytes-to_be_bytes_4, from_be_bytes-to_
 use Rattle.scene_meaning.specs.Keys.{IsSpelled, KeysDiffer, key_in}
 
 -- the tick with 2^63 added
-abbrev raised : ℤ → ℕ
+abbrev pub raised : ℤ → ℕ
 raised t = unsigned_abs (t +ℤ pos (2 ^ 63))
 
-raised_fits : (t : ℤ) → FitsSigned w64 t → raised t < 2 ^ 64
+pub raised_fits : (t : ℤ) → FitsSigned w64 t → raised t < 2 ^ 64
 raised_fits t fits = omega (arith, ints, fits.sfits)
 
 raised_apart : (t u : ℤ) → FitsSigned w64 t → FitsSigned w64 u → raised t ≡ raised u → t ≡ u
 raised_apart t u fits other same = omega (arith, ints, fits.sfits, other.sfits, same)
 
 -- a key is made of its parts
-key_is : (class node ask : ℕ) (t : ℤ) → IsSpelled class node ask t → key_in class node ask t ≡ ((class * 2 ^ 32 + node) * 2 ^ 24 + ask) * 2 ^ 64 + raised t
+pub key_is : (class node ask : ℕ) (t : ℤ) → IsSpelled class node ask t → key_in class node ask t ≡ ((class * 2 ^ 32 + node) * 2 ^ 24 + ask) * 2 ^ 64 + raised t
 key_is class node ask t is =
     let four : from_be_bytes w32 (to_be_bytes w32 node) ≡ node = from_be_bytes-to_be_bytes_4 node is.node_fits in
     let eight : from_be_bytes w64 (to_be_bytes w64 (raised t)) ≡ raised t = from_be_bytes-to_be_bytes_8 (raised t) (raised_fits t is.tick_fits) in

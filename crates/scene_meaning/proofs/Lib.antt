@@ -2,6 +2,7 @@ pub mod Boxes
 pub mod Clips
 mod Extents
 pub mod Inside
+pub mod Kept
 mod KeyParts
 pub mod Nodes
 mod Numbers

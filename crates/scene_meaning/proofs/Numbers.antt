@@ -22,7 +22,7 @@ use Rattle.scene_meaning.specs.Nodes.{effects_in}
 -- ---- the count of layers
 
 -- the layers of a composition
-abbrev layers_of : List PlainComp → ℕ → List PlainLayer
+abbrev pub layers_of : List PlainComp → ℕ → List PlainLayer
 layers_of comps comp = option_map_or (λ (c : PlainComp). c.layers) (slice_get comps comp) []
 
 pub comp_within : (comps : List Comp) (comp layer : ℕ) → layer < length (layers_of (map plain_comp comps) comp) → comp < length comps
@@ -45,7 +45,7 @@ counted_before (c ∷ cs) (suc comp) = omega (arith, counted_before cs comp, len
 -- ---- effects
 
 -- the effects of a layer
-abbrev effects_of : List PlainLayer → ℕ → List PlainFx
+abbrev pub effects_of : List PlainLayer → ℕ → List PlainFx
 effects_of layers layer = option_map_or (λ (l : PlainLayer). l.effects) (slice_get layers layer) []
 
 -- a layer that has an effect is there
@@ -75,7 +75,7 @@ few_plain [] layer all = omega arith
 few_plain (l ∷ ls) zero all = (All-head IsFormedLayer l ls all).few_effects
 few_plain (l ∷ ls) (suc layer) all = few_plain ls layer (All-tail IsFormedLayer l ls all)
 
-few_in : (comps : List PlainComp) (comp layer : ℕ) → All IsFormedComp comps → length (effects_of (layers_of comps comp) layer) ≤ 8
+pub few_in : (comps : List PlainComp) (comp layer : ℕ) → All IsFormedComp comps → length (effects_of (layers_of comps comp) layer) ≤ 8
 few_in [] comp layer all = omega arith
 few_in (c ∷ cs) zero layer all = few_plain c.layers layer (All-head IsFormedComp c cs all).layers
 few_in (c ∷ cs) (suc comp) layer all = few_in cs comp layer (All-tail IsFormedComp c cs all)

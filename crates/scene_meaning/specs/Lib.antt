@@ -5,6 +5,8 @@ pub mod Keys
 pub mod Nodes
 pub mod Output
 pub mod Parts
+pub mod Right
 pub mod Scene
 pub mod Shown
+pub mod Sizes
 pub mod Worked

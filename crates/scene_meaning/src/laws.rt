@@ -1,4 +1,5 @@
 //! Laws over the definitions, each the contract of a function that does nothing.
+ghost use Rattle.scene_meaning.specs.Right.{NodesAreKept};
 ghost use Rattle.scene_meaning.specs.Shown.{ShownIsOfWhatIsShown, MoreTurnsChangeNothing};
 ghost use Rattle.scene_meaning.specs.Keys.{KeysDiffer, KeyIsSpelled, NodeNumbersDiffer};
 ghost use Rattle.scene_meaning.specs.Nodes.{NodesAreDrawn};
@@ -99,4 +100,9 @@ pub fn key_is_spelled()
 /// Different nodes of a project have different numbers, where no layer has more than eight effects.
 pub fn node_numbers_differ()
     ensures { NodeNumbersDiffer }
+{}
+
+/// Under the key of a node, an ask and a held tick the job of a scene keeps the value of that node's plane.
+pub fn nodes_are_kept()
+    ensures { NodesAreKept }
 {}
