@@ -14,6 +14,8 @@ mod mixed;
 #[cfg(test)]
 mod nested;
 #[cfg(test)]
+mod nodes;
+#[cfg(test)]
 mod outside;
 #[cfg(test)]
 mod runs;
