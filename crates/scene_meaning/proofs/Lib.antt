@@ -6,5 +6,6 @@ pub mod Kept
 mod KeyParts
 pub mod Nodes
 mod Numbers
+mod RightKeys
 pub mod Turns
 pub mod Uses

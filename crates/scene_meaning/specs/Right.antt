@@ -1,5 +1,5 @@
 -- What a cache keeps of a scene.
-use Rattle.std.specs.Prelude.{◌≡◌, ℕ, zero, suc, ◌+◌, ◌-◌, ◌*◌, ◌/◌, ◌%◌, ◌^◌, ◌==◌, ◌&&◌, ℤ, pos, ◌+ℤ◌, ◌-ℤ◌, List, [], ◌∷◌, length, map, flat_map, nat_le, nat_lt, unsigned_abs, option_map, option_and_then, Option, Some, None, if◌then◌else◌}
+use Rattle.std.specs.Prelude.{◌≡◌, ◌↔◌, ◌≤◌, ℕ, zero, suc, ◌+◌, ◌-◌, ◌*◌, ◌/◌, ◌%◌, ◌^◌, ◌==◌, ◌&&◌, ℤ, pos, ◌+ℤ◌, ◌-ℤ◌, List, [], ◌∷◌, length, map, flat_map, nat_le, nat_lt, unsigned_abs, option_map, option_and_then, Option, Some, None, if◌then◌else◌}
 use Rattle.std.specs.List.{range_with_len}
 use Rattle.geom_rect.specs.Rect.{area_of, width_of, count_between}
 use Rattle.argb_pixel.specs.Packed.{pixel_size}
@@ -93,3 +93,22 @@ NodesAreKept =
     → IsSpelled class (node_number scene.project node) ask t → IsHeld (base_in scene.project) t
     → kept most scene class (key_in class (node_number scene.project node) ask t)
     ≡ value_of scene.set scene.drawing class ask (plane scene node t)
+
+-- what is right under a class and a key: the value of a node's plane, where the key spells the class, the node, an ask and a held tick
+pub record IsRight {most : ℕ} (scene : PlainScene) (class key : ℕ) (v : Value most) : Type 0 where
+  pub node : NodeId
+  pub ask : ℕ
+  pub tick : ℤ
+  pub has : HasNode scene.project node
+  pub of_layer : IsOfLayer node
+  pub spelled : IsSpelled class (node_number scene.project node) ask tick
+  pub held : IsHeld (base_in scene.project) tick
+  pub key_is : key ≡ key_in class (node_number scene.project node) ask tick
+  pub value_is : value_of scene.set scene.drawing class ask (plane scene node tick) ≡ Some v
+
+-- a value is kept exactly where it is right, for sets of as many classes as a set may have
+abbrev pub KeptIsRight : Type 0
+KeptIsRight =
+    (most : ℕ) (scene : PlainScene) (class key : ℕ) (v : Value most)
+    → IsFormed scene.project → length scene.set.class_names ≤ 255
+    → (kept most scene class key ≡ Some v) ↔ IsRight scene class key v

@@ -25,7 +25,8 @@ pixel_few most = by (nat_eq most 255)
 area_size : (n area : ℕ) → n ≤ 8 → area ≤ greatest_part → 64 + n * area < 2 ^ 32
 area_size n area few within = omega (arith, mul-le-mul_left {m = n} {n = 8} area few, within)
 
-chosen : {A : Type 0} (b : Bool) (x y : A) → (if b then Some x else None) ≡ Some y → (b ≡ true) × (x ≡ y)
+-- what a test chose
+pub chosen : {A : Type 0} (b : Bool) (x y : A) → (if b then Some x else None) ≡ Some y → (b ≡ true) × (x ≡ y)
 chosen true x y e = (refl, cc)
 chosen false x y e = let wrong : ⊥ = cc in absurd wrong
 

@@ -1,5 +1,5 @@
 //! Laws over the definitions, each the contract of a function that does nothing.
-ghost use Rattle.scene_meaning.specs.Right.{NodesAreKept};
+ghost use Rattle.scene_meaning.specs.Right.{KeptIsRight, NodesAreKept};
 ghost use Rattle.scene_meaning.specs.Shown.{ShownIsOfWhatIsShown, MoreTurnsChangeNothing};
 ghost use Rattle.scene_meaning.specs.Keys.{KeysDiffer, KeyIsSpelled, NodeNumbersDiffer};
 ghost use Rattle.scene_meaning.specs.Nodes.{NodesAreDrawn};
@@ -105,4 +105,9 @@ pub fn node_numbers_differ()
 /// Under the key of a node, an ask and a held tick the job of a scene keeps the value of that node's plane.
 pub fn nodes_are_kept()
     ensures { NodesAreKept }
+{}
+
+/// What the job keeps under a key is exactly what is right there: the value of the plane of the node and tick that the key spells.
+pub fn kept_is_right()
+    ensures { KeptIsRight }
 {}
