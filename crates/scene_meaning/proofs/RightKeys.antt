@@ -2,7 +2,7 @@
 use Rattle.std.proofs.Common.{◌≡◌, ℕ, zero, suc, ◌+◌, ◌-◌, ◌*◌, ◌/◌, ◌%◌, ◌^◌, ◌<◌, ◌≤◌, ℤ, pos, negsuc, ◌-ℤ◌, Bool, true, false, w64, List, [], ◌∷◌, length, take, refl, sym, ap, subst, ◌∙◌, arith}
 use Rattle.std.specs.Prelude.{Option, Some, None, option_map, option_and_then, if◌then◌else◌, nat_le, nat_lt, nat_eq, ◌&&◌, unsigned_abs}
 use Rattle.std.specs.Int.RustNames.{FitsSigned}
-use Rattle.std.proofs.lemmas.Bool.{ltb-true, ltb-false, leb-true, eqb-true}
+use Rattle.std.proofs.lemmas.Bool.{and_parts, ltb-true, ltb-false, leb-true, eqb-true}
 use Rattle.std.proofs.lemmas.Int.{ints, clamps}
 use Rattle.rational_time.specs.declared.time.TheConstants.{MOST_SECONDS}
 use Rattle.comp_stack.specs.Stack.{Plane}
@@ -23,10 +23,6 @@ use Rattle.scene_meaning.specs.Shown.{PlainScene, base_in, plane}
 use Rattle.scene_meaning.proofs.KeyParts.{raised, key_is}
 use Rattle.scene_meaning.proofs.Kept.{nodes_kept}
 use Rattle.scene_meaning.proofs.Numbers.{layers_of}
-
-both : (a b : Bool) → (a && b) ≡ true → (a ≡ true) × (b ≡ true)
-both true b e = (refl, e)
-both false b e = let wrong : ⊥ = cc in absurd wrong
 
 -- ---- a number that a layer or a node has
 
@@ -139,7 +135,7 @@ kept_right most scene class key v formed few = (
     by : (b : Bool) → (nat_eq (class_in key) class && nat_le (unsigned_abs (tick_in key)) (MOST_SECONDS * base_in scene.project)) ≡ b → (o : Option NodeId) → node_numbered scene.project (node_in key) ≡ o
         → (if b then option_and_then (λ node. value_of {most = most} scene.set scene.drawing class (ask_in key) (plane scene node (tick_in key))) o else None) ≡ Some v → IsRight scene class key v
     by true t (Some node) at e =
-        let tests = both (nat_eq (class_in key) class) (nat_le (unsigned_abs (tick_in key)) (MOST_SECONDS * base_in scene.project)) t in
+        let tests = and_parts (nat_eq (class_in key) class) (nat_le (unsigned_abs (tick_in key)) (MOST_SECONDS * base_in scene.project)) t in
         right_by scene class key v node few (eqb-true (class_in key) class tests.0) (leb-true (unsigned_abs (tick_in key)) (MOST_SECONDS * base_in scene.project) tests.1)
         (node_back scene.project (node_in key) node at) e
     by true t None at e = let wrong : ⊥ = cc in absurd wrong

@@ -1,7 +1,7 @@
 -- The sizes of what is kept of a scene are counted in 32 bits.
 use Rattle.std.proofs.Common.{◌≡◌, ℕ, zero, suc, ◌+◌, ◌*◌, ◌^◌, ◌<◌, ◌≤◌, Bool, true, false, length, refl, subst, arith}
 use Rattle.std.specs.Prelude.{Option, Some, None, option_and_then, if◌then◌else◌, nat_le, nat_lt, nat_eq, ◌&&◌, unsigned_abs}
-use Rattle.std.proofs.lemmas.Bool.{leb-true}
+use Rattle.std.proofs.lemmas.Bool.{and_parts, leb-true}
 use Rattle.std.proofs.Math.Nat.{mul-le-mul_left}
 use Rattle.geom_rect.specs.Rect.{area_of}
 use Rattle.argb_pixel.specs.Packed.{pixel_size}
@@ -30,15 +30,11 @@ pub chosen : {A : Type 0} (b : Bool) (x y : A) → (if b then Some x else None) 
 chosen true x y e = (refl, cc)
 chosen false x y e = let wrong : ⊥ = cc in absurd wrong
 
-both_right : (a b : Bool) → (a && b) ≡ true → b ≡ true
-both_right true b e = e
-both_right false b e = cc
-
 value_fits : {most : ℕ} (set : EffectSet) (drawing : Drawing) (class ask : ℕ) (plane : Plane) (v : Value most) → ((c a : ℕ) (p : Plane) → length (drawing.sums_of c a p) ≤ 65536) → value_of set drawing class ask plane ≡ Some v → size_in v < 2 ^ 32
 value_fits {most} set drawing zero ask plane v few e =
     let test = nat_eq ask 0 && nat_le (area_of plane.extent) greatest_part in
     let is = chosen test (value.Plane (whole_of plane)) v e in
-    let within : area_of plane.extent ≤ greatest_part = leb-true (area_of plane.extent) greatest_part (both_right (nat_eq ask 0) (nat_le (area_of plane.extent) greatest_part) is.0) in
+    let within : area_of plane.extent ≤ greatest_part = leb-true (area_of plane.extent) greatest_part (and_parts (nat_eq ask 0) (nat_le (area_of plane.extent) greatest_part) is.0).1 in
     subst (λ (w : Value most). size_in w < 2 ^ 32) is.1 (area_size (pixel_size most) (area_of plane.extent) (pixel_few most) within)
 value_fits {most} set drawing (suc index) ask plane v few e =
     let is = chosen (nat_lt index (length set.class_names)) (value.Sums (drawing.sums_of (suc index) ask plane)) v e in

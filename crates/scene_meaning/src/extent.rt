@@ -105,6 +105,7 @@ fn source_extent(scene: &Scene, layer: &Layer) -> Rect
     match layer.source {
         Item::Solid { width, height, .. } => frame_rect(width, height),
         Item::Clip(index) => {
+            // The clip has the sides that are declared.
             let declared = clip_use_at(scene, index);
             let _clip = scene.clip(index);
             frame_rect(declared.width, declared.height)

@@ -11,8 +11,8 @@ use effect_api::{Draw, Value};
 /// What a cache keeps of a scene and an effect set: under class 0 the planes of the scene's nodes, and under the set's classes their
 /// sums. It borrows both.
 pub struct SceneJob<'a, E, const MAX: u32> {
-    scene: &'a Scene,
-    effects: &'a E,
+    pub scene: &'a Scene,
+    pub effects: &'a E,
 }
 
 impl<'a, E, const MAX: u32> SceneJob<'a, E, MAX> {
