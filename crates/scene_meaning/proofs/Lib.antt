@@ -1,11 +1,13 @@
 pub mod Boxes
 pub mod Clips
 mod Extents
+pub mod Given
 pub mod Inside
 pub mod Kept
 mod KeyParts
 pub mod Nodes
 mod Numbers
+pub mod Planes
 mod RightKeys
 pub mod Turns
 pub mod Uses

@@ -24,16 +24,12 @@ use Rattle.effect_api.specs.Wants.{IsWant}
 use Rattle.scene_meaning.specs.Drawn.{nothing, moment_at, input_plane}
 use Rattle.scene_meaning.specs.Parts.{IsLayerIn}
 use Rattle.scene_meaning.specs.Shown.{Sources, base_in, named_plane, source_plane}
-use Rattle.scene_meaning.proofs.Inside.{found_holds}
+use Rattle.scene_meaning.proofs.Given.{use_at}
 
 -- each use of an effect fits the set
 pub use_is : (schemas : List EffectSchema) (project : Project) (of : ℕ) (comp : Comp) (layer : Layer) (number : ℕ) (fx : FxUse) → AreUses schemas project → IsLayerIn project of comp layer → slice_get layer.effects number ≡ Some fx
     → IsUse schemas project.base.ticks (length comp.layers) fx
-use_is schemas project of comp layer number fx uses inside found =
-    found_holds (IsUse schemas project.base.ticks (length comp.layers)) layer.effects number fx
-    (found_holds (λ (l : Layer). All (IsUse schemas project.base.ticks (length comp.layers)) l.effects) comp.layers inside.index layer
-    (found_holds (λ (k : Comp). All (λ (l : Layer). All (IsUse schemas project.base.ticks (length k.layers)) l.effects) k.layers) project.comps of comp uses inside.here)
-    inside.there) found
+use_is schemas project of comp layer number fx uses inside found = use_at schemas project of inside.index number comp layer fx uses inside.here inside.there found
 
 -- and is given to it at a moment
 pub given_is : (schemas : List EffectSchema) (fx : Use) (at : Moment) (base : ℕ) (frame t : ℤ) → FitsKind schemas fx → at ≡ moment_at base frame t → IsHeld base t → pos 1 ≤ℤ at.frame → at.frame ≤ℤ pos (MOST_SECONDS * base) → IsGiven schemas fx at

@@ -5,6 +5,7 @@ pub mod Keys
 pub mod Nodes
 pub mod Output
 pub mod Parts
+pub mod Planes
 pub mod Right
 pub mod Scene
 pub mod Shown
