@@ -1,5 +1,6 @@
 -- A pixel of a clip, by its place among the pixels.
-use Rattle.std.proofs.Common.{◌≡◌, ℕ, ◌+◌, ◌-◌, ◌*◌, ◌<◌, ◌≤◌, ◌≢◌, ◌⊎◌, inl, inr, List, ◌∷◌, length, take, drop, get_or, None, sym, ap, subst, ◌∙◌, arith, length-drop}
+use Rattle.std.specs.List.{All}
+use Rattle.std.proofs.Common.{◌≡◌, ℕ, zero, suc, ◌+◌, ◌-◌, ◌*◌, ◌<◌, ◌≤◌, ◌≢◌, ◌⊎◌, inl, inr, List, [], ◌∷◌, length, take, drop, get_or, None, refl, sym, ap, subst, ◌∙◌, arith, length-drop}
 use Rattle.std.proofs.Math.Nat.{mul-le-mul_left}
 use Rattle.argb_pixel.specs.Pixel.{Argb, IsPremultiplied, clear}
 use Rattle.project_model.specs.Bounds.{most_of, header_length}
@@ -154,3 +155,13 @@ row_read_16 most xs ys depth n q pixel e s same is =
     ∙ ap (λ zs. in_depth 32768 most (get_or (pixels_of_16 zs) n clear)) (rest_is header_length ys ∙ ap (drop header_length) s)
     ∙ ap (λ k. in_depth 32768 most (get_or (pixels_of_16 (drop header_length xs)) k clear)) same
     ∙ ap (λ k. in_depth (most_of k) most (get_or (pixels_of k (drop header_length xs)) q clear)) (sym e)
+
+-- ---- all pixels
+
+drop_at : {A : Type 0} (xs : List A) (k : ℕ) (d : A) → k < length xs → drop k xs ≡ get_or xs k d ∷ drop (suc k) xs
+drop_at [] k d within = absurd (omega (arith, within))
+drop_at (x ∷ xs) zero d within = refl
+drop_at (x ∷ xs) (suc k) d within = drop_at xs k d (omega (arith, within))
+
+pub all_sound : (most : ℕ) (pixels : List Argb) → first_bad most pixels ≡ None → All (IsPremultiplied most) pixels
+all_sound most pixels sound = λ k d within. sound_at most k pixels (get_or pixels k d) (drop (suc k) pixels) sound (drop_at pixels k d within)

@@ -1,5 +1,6 @@
 //! Clips: pictures that were read from the bytes of a file.
 ghost use Rattle.std.specs.Prelude.{◌≡◌, ℕ, ◌+◌, ◌*◌, ◌<◌, ◌≤◌, length, drop, get_or, slice_index_or, None, Ok, Err, IfOk, IfErr, IsErrOf, MatchResult};
+ghost use Rattle.std.specs.List.{All};
 ghost use Rattle.argb_pixel.specs.Depth.{IsDepth};
 ghost use Rattle.argb_pixel.specs.Pixel.{IsPremultiplied, clear};
 ghost use Rattle.project_model.specs.Bounds.{most_of, greatest_side, most_frames, header_length};
@@ -125,6 +126,14 @@ impl Clip {
         ensures { result ≡ self.now.frames }
     {
         self.frames
+    }
+
+    /// The bits of a channel in its file, 8 or 16. Each pixel is premultiplied in that depth.
+    pub fn depth(&self) -> u8
+        ensures depth { result ≡ self.now.depth }
+        ensures pixels { All (IsPremultiplied (most_of self.now.depth)) self.now.pixels }
+    {
+        self.depth
     }
 
     /// The pixels of a picture at the height `y` from its top, from the left, in the depth `MAX`, over as many pixels as the

@@ -24,7 +24,7 @@ fold_more f z [] k x e = let wrong : ⊥ = cc in absurd wrong
 fold_more f z (y ∷ ys) zero x e = let same : y ≡ x = cc in ap (f z) same
 fold_more f z (y ∷ ys) (suc k) x e = fold_more f (f z y) ys k x e
 
-take_all : {A : Type 0} (xs : List A) → take (length xs) xs ≡ xs
+pub take_all : {A : Type 0} (xs : List A) → take (length xs) xs ≡ xs
 take_all [] = refl
 take_all (x ∷ xs) = ap (λ l. x ∷ l) (take_all xs)
 

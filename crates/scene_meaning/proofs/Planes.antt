@@ -52,8 +52,8 @@ use Rattle.effect_api.specs.Wants.{IsWant, IsAsk}
 use Rattle.effect_api.specs.Planes.{IsPlane, extents_of}
 use Rattle.scene_meaning.specs.Boxes.{IsBoxed}
 use Rattle.scene_meaning.specs.Drawn.{nothing, moment_at, input_plane}
-use Rattle.scene_meaning.specs.Planes.{IsPremultipliedClip, IsLawfulScene, IsBoxedPlane, PlanesAreBoxed}
-use Rattle.scene_meaning.specs.Scene.{SceneParts, IsClipOf, EndsInTime, plain_scene}
+use Rattle.scene_meaning.specs.Planes.{IsLawfulScene, IsBoxedPlane, PlanesAreBoxed}
+use Rattle.scene_meaning.specs.Scene.{SceneParts, IsClipOf, IsPremultipliedClip, EndsInTime, plain_scene}
 use Rattle.effect_api.specs.Sets.{EffectSet, Drawing}
 use Rattle.scene_meaning.specs.Shown.{PlainScene, Showing, shown, shown_in, shown_from, comp_shown, end_of_comp, plane_in, seen_plane, matte_plane, placed_of, placed_layers, is_seen, serves_as_matte, base_in, most_in, picture_at, picture_plane, clip_plane, comp_plane, sources_of, source_plane, named_plane, fx_plane, plane_behind, plane_of_item, since}
 use Rattle.scene_meaning.proofs.Inside.{found_holds}
@@ -231,7 +231,7 @@ module _ (parts : SceneParts) (set : EffectSet) (drawing : Drawing) (lawful : Is
           let readable = (found_holds (IsSoundClip project.base.ticks) project.clips index declared lawful.scene.sound.clips e).readable in
           let width : clip.width ≡ declared.width = ap (λ (c : Pictures). c.width) is in
           let height : clip.height ≡ declared.height = ap (λ (c : Pictures). c.height) is in
-          picture_boxed most clip (frame_at t (tick_of base declared.frame)) (some_depth clip.depth) (found_holds IsPremultipliedClip parts.clips index clip lawful.pixels g)
+          picture_boxed most clip (frame_at t (tick_of base declared.frame)) (some_depth clip.depth) (found_holds IsPremultipliedClip parts.clips index clip lawful.scene.pixels g)
           (omega (arith, width, readable.width.1)) (omega (arith, height, readable.height.1))
 
   item_boxed : (f : Showing) → ShowPlanes f → (start : Time) (it : Item) (t : ℤ) → IsSoundItem most (length project.clips) (length project.comps) it → IsBoxedPlane most 0 (plane_of_item (sources_of scene f) start it t)

@@ -1,14 +1,11 @@
 -- What layers show is premultiplied, transparent outside its extent, and not far away.
 use Rattle.std.specs.Prelude.{◌≡◌, ℕ, ◌≤◌, ℤ, length, take, slice_get, Some}
-use Rattle.std.specs.List.{All}
-use Rattle.argb_pixel.specs.Pixel.{IsPremultiplied}
 use Rattle.comp_stack.specs.Stack.{Plane}
 use Rattle.project_model.specs.Bounds.{most_of}
 use Rattle.project_model.specs.Plain.{plain_comp, plain_layer, plain_of}
 use Rattle.project_model.specs.Uses.{AreUses}
 use Rattle.project_model.specs.declared.comp.Comp.{Comp}
 use Rattle.project_model.specs.declared.layer.Layer.{Layer}
-use Rattle.frame_file.specs.Clip.{Pictures}
 use Rattle.effect_api.specs.Fits.{IsHeld}
 use Rattle.effect_api.specs.Planes.{IsPlane}
 use Rattle.effect_api.specs.Sets.{EffectSet, Drawing, IsLawfulSet, IsLawfulDrawing}
@@ -16,14 +13,9 @@ use Rattle.scene_meaning.specs.Boxes.{IsBoxed}
 use Rattle.scene_meaning.specs.Scene.{SceneParts, IsScene, plain_scene}
 use Rattle.scene_meaning.specs.Shown.{base_in, plane_behind, shown, source_plane, sources_of}
 
--- each pixel of the clip is premultiplied
-abbrev pub IsPremultipliedClip : Pictures → Type 0
-IsPremultipliedClip clip = All (IsPremultiplied (most_of clip.depth)) clip.pixels
-
 -- a scene with effects of a lawful set
 pub record IsLawfulScene (parts : SceneParts) (set : EffectSet) (drawing : Drawing) : Type 0 where
   pub scene : IsScene parts
-  pub pixels : All IsPremultipliedClip parts.clips
   pub uses : AreUses set.schemas parts.project
   pub set_is : IsLawfulSet set
   pub drawing_is : IsLawfulDrawing (most_of parts.project.depth) set drawing
@@ -41,4 +33,4 @@ pub record PlanesAreBoxed (parts : SceneParts) (set : EffectSet) (drawing : Draw
   pub behind : (of index count : ℕ) (comp : Comp) (layer : Layer) (t : ℤ) → slice_get parts.project.comps of ≡ Some comp → slice_get comp.layers index ≡ Some layer
       → count ≤ length layer.effects → IsHeld (base_in (plain_of parts.project)) t
       → IsBoxedPlane (most_of parts.project.depth) count
-          (plane_behind (sources_of (plain_scene parts set drawing) (shown (plain_scene parts set drawing))) (plain_comp comp) (plain_layer layer) (take count (plain_layer layer).effects) t)
+      (plane_behind (sources_of (plain_scene parts set drawing) (shown (plain_scene parts set drawing))) (plain_comp comp) (plain_layer layer) (take count (plain_layer layer).effects) t)

@@ -2,6 +2,8 @@
 use Rattle.std.specs.Prelude.{◌≡◌, false, List}
 use Rattle.std.specs.List.{All, AllZip}
 use Rattle.effect_api.specs.Sets.{EffectSet, Drawing}
+use Rattle.argb_pixel.specs.Pixel.{IsPremultiplied}
+use Rattle.project_model.specs.Bounds.{most_of}
 use Rattle.project_model.specs.Nesting.{RankTable, ranks_of}
 use Rattle.project_model.specs.Plain.{plain_comp, plain_of}
 use Rattle.project_model.specs.Rules.{is_too_long}
@@ -25,10 +27,15 @@ IsClipOf declared clip = clip ≡ pictures_of declared clip.pixels
 abbrev pub EndsInTime : Comp → Type 0
 EndsInTime comp = is_too_long (plain_comp comp) ≡ false
 
+-- each pixel of the clip is premultiplied
+abbrev pub IsPremultipliedClip : Pictures → Type 0
+IsPremultipliedClip clip = All (IsPremultiplied (most_of clip.depth)) clip.pixels
+
 -- what holds of the parts of every scene
 pub record IsScene (parts : SceneParts) : Type 0 where
   pub sound : IsSound parts.project
   pub clips : AllZip IsClipOf parts.project.clips parts.clips
+  pub pixels : All IsPremultipliedClip parts.clips
   pub lengths : All EndsInTime parts.project.comps
   pub ranks : parts.ranks ≡ ranks_of (plain_of parts.project)
 

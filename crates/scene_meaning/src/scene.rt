@@ -5,8 +5,13 @@ ghost use Rattle.project_model.specs.Nesting.{ranks_of};
 ghost use Rattle.project_model.specs.Plain.{plain_of};
 ghost use Rattle.project_model.specs.Sound.{IsSound};
 ghost use Rattle.project_model.specs.declared.clip.ClipUse.{ClipUse};
-ghost use Rattle.scene_meaning.specs.Scene.{IsClipOf, EndsInTime};
+ghost use Rattle.project_model.specs.Bounds.{most_of};
+ghost use Rattle.project_model.specs.Uses.{AreUses};
+ghost use Rattle.scene_meaning.specs.Planes.{PlanesAreBoxed};
+ghost use Rattle.scene_meaning.specs.Scene.{IsClipOf, IsPremultipliedClip, EndsInTime};
 
+use crate::means::{HasSet, Means};
+use effect_api::{Draw, drawing_is_lawful, set_is_lawful};
 use frame_file::Clip;
 use host_io::Memory;
 use project_model::{Project, Ranks};
@@ -41,6 +46,7 @@ impl Scene {
         requires ranks { ranks ≡ ranks_of (plain_of project) }
         ensures { IfOk result (λ scene. scene ≡ record { project = project; clips = clips.items; ranks = ranks }) }
     {
+        clips_are_premultiplied(&clips);
         Ok(Scene {
             project,
             clips,
@@ -55,6 +61,18 @@ impl Scene {
         ensures lengths { All EndsInTime result.now.comps }
     {
         &self.project
+    }
+
+    /// What its layers show, with effects of this set, is premultiplied, transparent outside its extent, and within its box. The call
+    /// does nothing: its contract is the fact.
+    pub fn planes_are_boxed<E: Draw<MAX>, const MAX: u32>(&self)
+        requires depth { MAX ≡ most_of self.now.project.depth }
+        requires uses { AreUses E.schemas self.now.project }
+        ensures { PlanesAreBoxed self.now ⟦<E as HasSet>⟧.set ⟦<E as Means<MAX>>⟧.drawing }
+    {
+        set_is_lawful::<E>();
+        drawing_is_lawful::<E, MAX>();
+        let _opened = &self.project;
     }
 
     /// The ranks of its nodes.
@@ -72,5 +90,14 @@ impl Scene {
         ensures declared { (declared : ClipUse) → slice_get self.now.project.clips index ≡ Some declared → IsClipOf declared result.now }
     {
         &self.clips[index as usize]
+    }
+}
+
+// Each pixel of clips is premultiplied. The call changes nothing: its contract is the fact.
+fn clips_are_premultiplied(clips: &[Clip])
+    ensures { All IsPremultipliedClip clips.now }
+{
+    for clip in clips {
+        let _premultiplied = clip.depth();
     }
 }
