@@ -1,6 +1,6 @@
 pub mod Boxes
 pub mod Clips
-mod Extents
+pub mod Extents
 pub mod Given
 pub mod Inside
 pub mod Kept

@@ -170,9 +170,10 @@ fn effect_extent<E: Effect>(
     bounds_of(alloc, effects, fx, at, &extents)
 }
 
-// The extents of what the effect of a number wants, in order. What is wanted twice is found once.
+/// The extents of what the effect of a layer wants, in order, where it is the effect of this number. What is wanted twice is found
+/// once.
 #[cycle(extent)]
-fn wanted_extents<E: Effect>(
+pub fn wanted_extents<E: Effect>(
     alloc: Global,
     scene: &Scene,
     effects: &E,

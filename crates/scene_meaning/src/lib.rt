@@ -10,6 +10,7 @@ mod number;
 mod parts;
 mod scene;
 
+pub use extent::wanted_extents;
 pub use job::SceneJob;
 pub use keys::key_of;
 pub use laws::{
