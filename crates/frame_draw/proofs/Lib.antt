@@ -1,3 +1,4 @@
+pub mod Areas
 pub mod CheckedOut
 pub mod Drawing
 pub mod Frames

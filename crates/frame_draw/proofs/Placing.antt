@@ -1,44 +1,46 @@
 -- What is put on the stack for a layer.
-use Rattle.std.proofs.Common.{◌≡◌, ℕ, zero, suc, ◌+◌, ◌-◌, ◌<◌, ◌≤◌, ℤ, pos, negsuc, ◌≤ℤ◌, Fits, w32, Bool, true, false, List, [], ◌∷◌, length, map, drop, get_or, refl, sym, ap, subst, ◌∙◌, arith}
+use Rattle.std.proofs.Common.{◌≡◌, ℕ, zero, suc, ◌+◌, ◌-◌, ◌<◌, ◌≤◌, ℤ, pos, negsuc, ◌≤ℤ◌, ◌-ℤ◌, Fits, w32, Bool, true, false, List, [], ◌∷◌, length, map, drop, get_or, refl, sym, ap, subst, ◌∙◌, arith}
 use Rattle.std.specs.Prelude.{Result, Ok, Err, IfOk, Option, Some, None, option_map, not, ◌&&◌, slice_get, unsigned_abs, if◌then◌else◌, All, int_le, int_lt, take}
 use Rattle.std.specs.Int.RustNames.{FitsSigned}
 use lib.Dec.{T}
 use lib.Signed.{non_neg}
 use lib.IntN.{nat_abs}
 use Rattle.std.proofs.lemmas.Int.{ints}
-use Rattle.std.proofs.lemmas.List.{drop_more}
+use Rattle.std.proofs.lemmas.List.{drop_more, length-map}
 use Rattle.std.proofs.lemmas.List.Elements.{All-nil, All-push}
 use Rattle.std.proofs.lemmas.Option.{slice_get-map, slice_get_within, get_or_from_slice_get}
 use Rattle.geom_rect.specs.declared.rect.Rect.{Rect}
 use Rattle.geom_rect.specs.Rect.{Has, has, frame_rect}
-use Rattle.geom_rect.proofs.Points.{Has-from_true}
-use Rattle.argb_pixel.specs.Pixel.{Argb, clear}
-use Rattle.argb_world.specs.Picture.{Picture, AgreesOn, at, place_of}
-use Rattle.comp_stack.specs.Stack.{Plane, PlacedPlane, PlacedLayer, solid_plane, step, stack_at, stack_over}
+use Rattle.geom_rect.proofs.Points.{Has-from_true, has-true}
+use Rattle.argb_pixel.specs.Pixel.{Argb, clear, scale_of}
+use Rattle.transfer_mode.specs.Transfer.{blend_of}
+use Rattle.track_matte.specs.Mattes.{matted}
+use Rattle.effect_api.specs.Planes.{AgreeOn}
+use Rattle.argb_world.specs.Picture.{Picture, at, place_of}
+use Rattle.comp_stack.specs.Stack.{Plane, PlacedPlane, PlacedLayer, matte_at, pixel_at, solid_plane, source_at, step, stack_at, stack_over}
 use Rattle.comp_stack.specs.declared.layer.Shown.{Shown}
 use Rattle.comp_stack.specs.declared.layer.Placed.{Placed}
 use Rattle.project_model.specs.Rules.{has_matte, layer_above}
-use Rattle.comp_stack.specs.Layers.{IsShown, IsPlaced, IsPosition, plane_of, placed_of as plane_placed}
+use Rattle.comp_stack.specs.Layers.{IsShown, IsPlaced, IsPosition, layer_of, plane_of, placed_of as plane_placed}
 use Rattle.transfer_mode.specs.declared.mode.Mode.{Mode}
-use Rattle.track_matte.specs.declared.matte.Matte.{Matte}
 use Rattle.project_model.specs.Nesting.{IsAcyclic}
 use Rattle.project_model.specs.declared.comp.Comp.{Comp}
 use Rattle.scene_meaning.proofs.Turns.{shown_fixed}
 use Rattle.param_stream.specs.Curve.{Curve, IsBetween, value_at}
 use Rattle.param_stream.proofs.Values.{value_within}
 use Rattle.project_model.specs.Bounds.{full_opacity, least_position, greatest_position}
-use Rattle.project_model.specs.Sound.{IsMadeWith, IsMadeLayer}
+use Rattle.project_model.specs.Sound.{IsMadeWith}
 use Rattle.project_model.specs.Plain.{plain_fx, plain_layer, plain_comp}
 use Rattle.project_model.specs.declared.plain.PlainFx.{PlainFx}
 use Rattle.project_model.specs.declared.plain.PlainLayer.{PlainLayer}
 use Rattle.project_model.specs.declared.plain.PlainComp.{PlainComp}
 use Rattle.project_model.specs.declared.layer.Layer.{Layer}
-use Rattle.scene_meaning.specs.Shown.{PlainScene, Sources, base_in, most_in, is_seen, plane_in, seen_plane, plane_behind, placed_of, serves_as_matte, placed_layers, end_of_comp, comp_shown, comp_plane, shown}
-use Rattle.scene_meaning.specs.Boxes.{IsBoxed}
-use Rattle.scene_meaning.proofs.Boxes.{frame_boxed}
+use Rattle.scene_meaning.specs.Shown.{PlainScene, Sources, base_in, most_in, is_seen, matte_plane, plane_in, seen_plane, plane_behind, placed_of, serves_as_matte, placed_layers, end_of_comp, comp_shown, comp_plane, shown}
 use Rattle.scene_meaning.proofs.Inside.{there_is}
-use Rattle.frame_draw.specs.Layers.{IsOfMatte, IsOfLayer, plane_at, brought}
 use Rattle.scene_meaning.specs.Parts.{drawn_from}
+use Rattle.frame_draw.specs.Areas.{StandsFor, area_in}
+use Rattle.frame_draw.proofs.Areas.{area_inside, stands_in, whole_area, whole_is}
+use Rattle.frame_draw.specs.Layers.{IsShownOn, IsOfMatte, IsOfLayer, brought}
 
 -- a picture that has one colour over its whole frame is that solid
 pub solid_is : (world : Picture) (w h : ℕ) (colour : Argb) (frame : Rect) → frame ≡ frame_rect w h → world.extent ≡ frame → world.part ≡ frame
@@ -74,12 +76,8 @@ opacity_fits (negsuc n) low high = absurd (omega (arith, ints, low))
 
 -- ---- a layer's picture
 
-same_plane : (plane plane' : Plane) (x x' y y' : ℤ) (o o' : ℕ) → plane ≡ plane' → x ≡ x' → y ≡ y' → o ≡ o'
-    → (let p : PlacedPlane = record { plane = plane; x = x; y = y; opacity = o } in p) ≡ record { plane = plane'; x = x'; y = y'; opacity = o' }
-same_plane plane plane' x x' y y' o o' p a b c = cc
-
 -- the value of a stream that was made with this base and these bounds
-value_is : (curve : Curve) (base : ℕ) (t z : ℤ) → curve.base ≡ base → z ≡ value_at curve.base curve.keys t → z ≡ value_at base curve.keys t
+pub value_is : (curve : Curve) (base : ℕ) (t z : ℤ) → curve.base ≡ base → z ≡ value_at curve.base curve.keys t → z ≡ value_at base curve.keys t
 value_is curve base t z made is = is ∙ ap (λ b. value_at b curve.keys t) made
 
 bounded : (curve : Curve) (base : ℕ) (least most t z : ℤ) → IsMadeWith base least most curve → z ≡ value_at curve.base curve.keys t → IsBetween least most z
@@ -111,45 +109,7 @@ opacity_cast curve base t z made is =
     by (pos n) low high = (tt, record { fits = omega (arith, ints, high) })
     by (negsuc n) low high = absurd (omega (arith, ints, low))
 
-pub shown_fits : (most base : ℕ) (t : ℤ) (layer : Layer) (world : Picture) (x y o : ℤ) → IsMadeLayer base layer
-    → x ≡ value_at layer.x.base layer.x.keys t → y ≡ value_at layer.y.base layer.y.keys t → o ≡ value_at layer.opacity.base layer.opacity.keys t
-    → IsShown {most = most} (record { world = world; x = x; y = y; opacity = unsigned_abs o })
-shown_fits most base t layer world x y o made xv yv ov = record {
-  opacity = opacity_of layer.opacity base t o made.opacity ov;
-  across = position_of layer.x base t x made.x xv;
-  down = position_of layer.y base t y made.y yv;
-}
-
-pub shown_plane : (most base : ℕ) (t : ℤ) (layer : Layer) (world : Picture) (x y o : ℤ) → IsMadeLayer base layer
-    → x ≡ value_at layer.x.base layer.x.keys t → y ≡ value_at layer.y.base layer.y.keys t → o ≡ value_at layer.opacity.base layer.opacity.keys t
-    → plane_placed {most = most} (record { world = world; x = x; y = y; opacity = unsigned_abs o }) ≡ plane_at base t (plain_layer layer) (plane_of world)
-shown_plane most base t layer world x y o made xv yv ov =
-    same_plane _ _ x _ y _ (unsigned_abs o) _ refl
-    (value_is layer.x base t x made.x.base_is xv)
-    (value_is layer.y base t y made.y.base_is yv)
-    (ap unsigned_abs (value_is layer.opacity base t o made.opacity.base_is ov))
-
 -- ---- copies
-
-pub outside : (p : Picture) (x y : ℤ) → has p.part x y ≡ false → at p x y ≡ clear
-outside p x y e = ap (λ (b : Bool). if b then get_or p.pixels (place_of p.part x y) clear else clear) e
-
-copy_is : (p q : Picture) → q.extent ≡ p.extent → q.part ≡ p.part → AgreesOn p.part p q → plane_of q ≡ plane_of p
-copy_is p q extent part agrees =
-    ap (λ (e : Rect). let r : Plane = record { extent = e; at = at q } in r) extent
-    ∙ ap (λ (f : ℤ → ℤ → Argb). let r : Plane = record { extent = p.extent; at = f } in r) (λ i x y. points x y i)
-  where
-    points : (x y : ℤ) → at q x y ≡ at p x y
-    points x y = by (has p.part x y) refl
-      where
-        by : (b : Bool) → has p.part x y ≡ b → at q x y ≡ at p x y
-        by true e = agrees x y (Has-from_true p.part x y e)
-        by false e = outside q x y (ap (λ (r : Rect). has r x y) part ∙ e) ∙ sym (outside p x y e)
-
-pub copy_ok : {E : Type 0} (made : Result Picture E) (p : Picture) (part : Rect) → part ≡ p.part → IfOk made (λ q. q.extent ≡ p.extent) → IfOk made (λ q. q.part ≡ part)
-    → IfOk made (λ q. AgreesOn part p q) → IfOk made (λ q. plane_of q ≡ plane_of p)
-copy_ok (Ok q) p part here extent is agrees = copy_is p q extent (is ∙ here) (subst (λ (r : Rect). AgreesOn r p q) here agrees)
-copy_ok (Err e) p part here extent is agrees = tt
 
 -- ---- layers from the last one on
 
@@ -212,30 +172,48 @@ pub seen_brings : (most : ℕ) (sources : Sources) (base : ℕ) (comp : PlainCom
 seen_brings most sources base comp t i layer seen serves x y below same is e is' e' =
     over_itself most _ (placed_of sources comp t i layer) x y below (both_true (is_seen sources.base comp t layer) (serves_as_matte comp i) (seen_in sources base comp t layer seen true same is e) (sym is' ∙ e'))
 
-same_layer : (p p' : PlacedPlane) (o o' : Option PlacedPlane) (m : Mode) (k : Matte) → p ≡ p' → o ≡ o'
-    → (let l : PlacedLayer = record { layer = p; mode = m; matte = k; over = o } in l) ≡ record { layer = p'; mode = m; matte = k; over = o' }
-same_layer p p' o o' m k a b = cc
-
 -- all of a list
 take_map : {A B : Type 0} (f : A → B) (xs : List A) → take (length xs) (map f xs) ≡ map f xs
 take_map f [] = refl
 take_map f (x ∷ xs) = ap (λ l. f x ∷ l) (take_map f xs)
 
--- a layer's picture where its streams put it
-pub placed_in : {most : ℕ} (sources : Sources) (base : ℕ) (comp : PlainComp) (t : ℤ) (layer : Layer) (shown : Shown most) (plane : Plane) → base ≡ sources.base → plane_placed shown ≡ plane_at base t (plain_layer layer) plane
-    → plane ≡ plane_behind sources comp (plain_layer layer) (take (length layer.effects) (plain_layer layer).effects) t
-    → plane_placed shown ≡ plane_in sources comp t (plain_layer layer)
-placed_in {most} sources base comp t layer shown plane same is drawn =
-    is
-    ∙ ap (λ (n : ℕ). plane_at n t (plain_layer layer) plane) same
-    ∙ ap (plane_at sources.base t (plain_layer layer)) (drawn ∙ ap (λ (effects : List PlainFx). plane_behind sources comp (plain_layer layer) effects t) (take_map plain_fx layer.effects))
+-- a layer's picture where its streams put it, drawn where the area looks at it
+pub placed_in : {most : ℕ} (sources : Sources) (base : ℕ) (comp : PlainComp) (t : ℤ) (layer : Layer) (shown : Shown most) (area request : Rect) → IsShown shown → base ≡ sources.base
+    → shown.x ≡ value_at base layer.x.keys t → shown.y ≡ value_at base layer.y.keys t → shown.opacity ≡ unsigned_abs (value_at base layer.opacity.keys t)
+    → ((x y : ℤ) → Has area x y → Has request (x -ℤ shown.x) (y -ℤ shown.y))
+    → AgreeOn request (plane_of shown.world) (plane_behind sources comp (plain_layer layer) (take (length layer.effects) (plain_layer layer).effects) t)
+    → IsShownOn area (plane_in sources comp t (plain_layer layer)) shown
+placed_in {most} sources base comp t layer shown area request fits same x_is y_is opacity moved drawn =
+    let across : shown.x ≡ value_at sources.base layer.x.keys t = x_is ∙ ap (λ (n : ℕ). value_at n layer.x.keys t) same in
+    let down : shown.y ≡ value_at sources.base layer.y.keys t = y_is ∙ ap (λ (n : ℕ). value_at n layer.y.keys t) same in
+    let whole = take_map plain_fx layer.effects in
+    record {
+      fits = fits;
+      opacity = opacity ∙ ap (λ (n : ℕ). unsigned_abs (value_at n layer.opacity.keys t)) same;
+      points = λ x y has.
+          drawn (x -ℤ shown.x) (y -ℤ shown.y) (moved x y has)
+          ∙ ap (λ (effects : List PlainFx). (plane_behind sources comp (plain_layer layer) effects t).at (x -ℤ shown.x) (y -ℤ shown.y)) whole
+          ∙ ap (λ (z : ℤ). (plane_behind sources comp (plain_layer layer) (plain_layer layer).effects t).at (x -ℤ z) (y -ℤ shown.y)) across
+          ∙ ap (λ (z : ℤ). (plane_behind sources comp (plain_layer layer) (plain_layer layer).effects t).at (x -ℤ value_at sources.base layer.x.keys t) (y -ℤ z)) down;
+    }
 
-pub layer_is : {most : ℕ} (sources : Sources) (t : ℤ) (comp : PlainComp) (i : ℕ) (layer : Layer) (shown : Shown most) (over : Option (Shown most)) → IsShown shown → plane_placed shown ≡ plane_in sources comp t (plain_layer layer)
-    → IsOfMatte sources t comp i (plain_layer layer) over → IsOfLayer {most = most} sources t comp i (plain_layer layer) (record { layer = shown; mode = layer.mode; matte = layer.matte; over = over })
-layer_is {most} sources t comp i layer shown over fits is matte = record {
-  fits = record { layer = fits; over = matte.fits };
-  same = same_layer _ _ _ _ layer.mode layer.matte is matte.same;
+pub layer_is : {most : ℕ} (area : Rect) (sources : Sources) (t : ℤ) (comp : PlainComp) (i : ℕ) (layer : Layer) (shown : Shown most) (over : Option (Shown most)) → IsShownOn area (plane_in sources comp t (plain_layer layer)) shown
+    → IsOfMatte area sources t comp i (plain_layer layer) over → IsOfLayer {most = most} area sources t comp i (plain_layer layer) (record { layer = shown; mode = layer.mode; matte = layer.matte; over = over })
+layer_is {most} area sources t comp i layer shown over is matte = record {
+  fits = record { layer = is.fits; over = matte.fits };
+  mode = refl;
+  points = λ x y has.
+      ap (λ (p : Argb). scale_of (matted most layer.matte p (pixel_at (plane_placed shown) x y)) shown.opacity) (matte.points x y has)
+      ∙ ap (λ (p : Argb). scale_of (matted most layer.matte (matte_at (matte_plane sources comp t i (plain_layer layer)) x y) p) shown.opacity) (is.points x y has)
+      ∙ ap (λ (n : ℕ). scale_of (matted most layer.matte (matte_at (matte_plane sources comp t i (plain_layer layer)) x y) (pixel_at (plane_in sources comp t (plain_layer layer)) x y)) n) is.opacity;
 }
+
+-- it makes the same step
+pub step_on : {most : ℕ} (area : Rect) (sources : Sources) (t : ℤ) (comp : PlainComp) (i : ℕ) (layer : PlainLayer) (placed : Placed most) (x y : ℤ) (below : Argb) → IsOfLayer {most = most} area sources t comp i layer placed → Has area x y
+    → step most (layer_of placed) x y below ≡ step most (placed_of sources comp t i layer) x y below
+step_on {most} area sources t comp i layer placed x y below is has =
+    ap (λ (p : Argb). blend_of most placed.mode p below) (is.points x y has)
+    ∙ ap (λ (m : Mode). blend_of most m (source_at most (placed_of sources comp t i layer) x y) below) is.mode
 
 pub one_placed : {most : ℕ} (placed : Placed most) → IsPlaced placed → All (IsPlaced {most = most}) (placed ∷ [])
 one_placed {most} placed fits = All-push (IsPlaced {most = most}) [] placed (All-nil (IsPlaced {most = most})) fits
@@ -248,49 +226,60 @@ above_here comp (suc i) above some found =
     let one : suc i - 1 ≡ i = omega arith in
     slice_get-map plain_layer comp.layers i ∙ ap (option_map plain_layer) (ap (slice_get comp.layers) (sym one) ∙ found)
 
--- the layer has none, or nothing stands above it
-pub no_matte : {most : ℕ} (sources : Sources) (t : ℤ) (comp : PlainComp) (i : ℕ) (layer : PlainLayer) (has : Bool) → has ≡ has_matte layer → has ≡ false → IsOfMatte {most = most} sources t comp i layer None
-no_matte sources t comp i layer has is e = record {
-  fits = tt;
-  same = sym (ap (λ (b : Bool). if b then seen_plane sources comp t (layer_above comp i) else None) (sym is ∙ e));
-}
+-- what its matte is taken from is not there
+none_is : {most : ℕ} (area : Rect) (sources : Sources) (t : ℤ) (comp : PlainComp) (i : ℕ) (layer : PlainLayer) → matte_plane sources comp t i layer ≡ None → IsOfMatte {most = most} area sources t comp i layer None
+none_is area sources t comp i layer none = record { fits = tt; points = λ x y inside. sym (ap (λ (o : Option PlacedPlane). matte_at o x y) none) }
 
-pub no_layer_above : {most : ℕ} (sources : Sources) (t : ℤ) (comp : PlainComp) (i : ℕ) (layer : PlainLayer) → i ≡ 0 → IsOfMatte {most = most} sources t comp i layer None
-no_layer_above sources t comp i layer e = record {
-  fits = tt;
-  same = sym (ap (λ (k : ℕ). if has_matte layer then seen_plane sources comp t (layer_above comp k) else None) e ∙ by (has_matte layer));
-}
+-- the layer has none, or nothing stands above it
+pub no_matte : {most : ℕ} (area : Rect) (sources : Sources) (t : ℤ) (comp : PlainComp) (i : ℕ) (layer : PlainLayer) (has : Bool) → has ≡ has_matte layer → has ≡ false → IsOfMatte {most = most} area sources t comp i layer None
+no_matte area sources t comp i layer has is e = none_is area sources t comp i layer (ap (λ (b : Bool). if b then seen_plane sources comp t (layer_above comp i) else None) (sym is ∙ e))
+
+pub no_layer_above : {most : ℕ} (area : Rect) (sources : Sources) (t : ℤ) (comp : PlainComp) (i : ℕ) (layer : PlainLayer) → i ≡ 0 → IsOfMatte {most = most} area sources t comp i layer None
+no_layer_above area sources t comp i layer e = none_is area sources t comp i layer (ap (λ (k : ℕ). if has_matte layer then seen_plane sources comp t (layer_above comp k) else None) e ∙ by (has_matte layer))
   where
     by : (b : Bool) → (if b then seen_plane sources comp t (layer_above comp 0) else None) ≡ None
     by true = refl
     by false = refl
 
 -- the layer above is not seen, or it is
-pub unseen_matte : {most : ℕ} (sources : Sources) (base : ℕ) (t : ℤ) (comp : Comp) (i : ℕ) (layer : PlainLayer) (above : Layer) (seen : Bool) → 1 ≤ i → slice_get comp.layers (i - 1) ≡ Some above → base ≡ sources.base
-    → seen ≡ is_seen base (plain_comp comp) t (plain_layer above) → seen ≡ false → IsOfMatte {most = most} sources t (plain_comp comp) i layer None
-unseen_matte sources base t comp i layer above seen some found same is e = record {
-  fits = tt;
-  same =
-      sym (ap (λ (o : Option PlainLayer). if has_matte layer then seen_plane sources (plain_comp comp) t o else None) (above_here comp i above some found)
-      ∙ ap (λ (b : Bool). if has_matte layer then (if b then Some (plane_in sources (plain_comp comp) t (plain_layer above)) else None) else None) (seen_in sources base (plain_comp comp) t (plain_layer above) seen false same is e)
-      ∙ by (has_matte layer));
-}
+pub unseen_matte : {most : ℕ} (area : Rect) (sources : Sources) (base : ℕ) (t : ℤ) (comp : Comp) (i : ℕ) (layer : PlainLayer) (above : Layer) (seen : Bool) → 1 ≤ i → slice_get comp.layers (i - 1) ≡ Some above → base ≡ sources.base
+    → seen ≡ is_seen base (plain_comp comp) t (plain_layer above) → seen ≡ false → IsOfMatte {most = most} area sources t (plain_comp comp) i layer None
+unseen_matte area sources base t comp i layer above seen some found same is e =
+    none_is area sources t (plain_comp comp) i layer
+    (ap (λ (o : Option PlainLayer). if has_matte layer then seen_plane sources (plain_comp comp) t o else None) (above_here comp i above some found)
+    ∙ ap (λ (b : Bool). if has_matte layer then (if b then Some (plane_in sources (plain_comp comp) t (plain_layer above)) else None) else None) (seen_in sources base (plain_comp comp) t (plain_layer above) seen false same is e)
+    ∙ by (has_matte layer))
   where
     by : (b : Bool) → (if b then (if false then Some (plane_in sources (plain_comp comp) t (plain_layer above)) else None) else None) ≡ None
     by true = refl
     by false = refl
 
-pub seen_matte : {most : ℕ} (sources : Sources) (base : ℕ) (t : ℤ) (comp : Comp) (i : ℕ) (layer : PlainLayer) (above : Layer) (seen has : Bool) (shown : Shown most) → 1 ≤ i → slice_get comp.layers (i - 1) ≡ Some above → base ≡ sources.base
-    → seen ≡ is_seen base (plain_comp comp) t (plain_layer above) → seen ≡ true → has ≡ has_matte layer → has ≡ true → IsShown shown → plane_placed shown ≡ plane_in sources (plain_comp comp) t (plain_layer above)
-    → IsOfMatte {most = most} sources t (plain_comp comp) i layer (Some shown)
-seen_matte {most} sources base t comp i layer above seen has shown some found same is e is' e' fits drawn = record {
-  fits = fits;
-  same =
-      ap Some drawn
-      ∙ sym (ap (λ (o : Option PlainLayer). if has_matte layer then seen_plane sources (plain_comp comp) t o else None) (above_here comp i above some found)
-      ∙ ap (λ (b : Bool). if has_matte layer then (if b then Some (plane_in sources (plain_comp comp) t (plain_layer above)) else None) else None) (seen_in sources base (plain_comp comp) t (plain_layer above) seen true same is e)
-      ∙ ap (λ (b : Bool). if b then Some (plane_in sources (plain_comp comp) t (plain_layer above)) else None) (sym is' ∙ e'));
-}
+pub seen_matte : {most : ℕ} (area : Rect) (sources : Sources) (base : ℕ) (t : ℤ) (comp : Comp) (i : ℕ) (layer : PlainLayer) (above : Layer) (seen has : Bool) (shown : Shown most) → 1 ≤ i → slice_get comp.layers (i - 1) ≡ Some above → base ≡ sources.base
+    → seen ≡ is_seen base (plain_comp comp) t (plain_layer above) → seen ≡ true → has ≡ has_matte layer → has ≡ true → IsShownOn area (plane_in sources (plain_comp comp) t (plain_layer above)) shown
+    → IsOfMatte {most = most} area sources t (plain_comp comp) i layer (Some shown)
+seen_matte {most} area sources base t comp i layer above seen has shown some found same is e is' e' drawn =
+    let there : matte_plane sources (plain_comp comp) t i layer ≡ Some (plane_in sources (plain_comp comp) t (plain_layer above)) =
+    ap (λ (o : Option PlainLayer). if has_matte layer then seen_plane sources (plain_comp comp) t o else None) (above_here comp i above some found)
+    ∙ ap (λ (b : Bool). if has_matte layer then (if b then Some (plane_in sources (plain_comp comp) t (plain_layer above)) else None) else None) (seen_in sources base (plain_comp comp) t (plain_layer above) seen true same is e)
+    ∙ ap (λ (b : Bool). if b then Some (plane_in sources (plain_comp comp) t (plain_layer above)) else None) (sym is' ∙ e') in
+    record {
+      fits = drawn.fits;
+      points = λ x y inside.
+          ap (λ (p : Argb). scale_of p shown.opacity) (drawn.points x y inside)
+          ∙ ap (λ (n : ℕ). scale_of (pixel_at (plane_in sources (plain_comp comp) t (plain_layer above)) x y) n) drawn.opacity
+          ∙ sym (ap (λ (o : Option PlacedPlane). matte_at o x y) there);
+    }
+
+drop_all : {A : Type 0} (xs : List A) (k : ℕ) → length xs ≤ k → drop k xs ≡ []
+drop_all [] zero few = refl
+drop_all [] (suc k) few = refl
+drop_all (x ∷ xs) zero few = absurd (omega (arith, few))
+drop_all (x ∷ xs) (suc k) few = drop_all xs k (omega (arith, few))
+
+-- no layer is drawn yet
+pub none_drawn : (most : ℕ) (sources : Sources) (comp : Comp) (t : ℤ) (n : ℕ) (x y : ℤ) → n ≡ length comp.layers → stack_over most (placed_layers sources (plain_comp comp) t (n - 0) (drop (n - 0) (plain_comp comp).layers)) x y clear ≡ clear
+none_drawn most sources comp t n x y long =
+    ap (λ (ls : List PlainLayer). stack_over most (placed_layers sources (plain_comp comp) t (n - 0) ls) x y clear) (drop_all (map plain_layer comp.layers) (n - 0) (omega (arith, long, length-map comp.layers plain_layer)))
 
 -- one layer more is drawn
 pub draw_step : (most : ℕ) (sources : Sources) (comp : Comp) (t : ℤ) (count done i : ℕ) (old new : Picture) (frame : Rect) → i ≡ count - 1 - done → done < count → count ≡ length comp.layers → old.part ≡ frame
@@ -343,29 +332,47 @@ out_of_time scene index base comp t test world acyclic found same is e extent bl
     ∙ sym (comp_is scene index comp t x y acyclic found
     ∙ ap (λ (b : Bool). if b && has (frame_rect comp.width comp.height) x y then stack_at (most_in scene) (placed_layers (drawn_from scene) comp t 0 comp.layers) x y else clear) (end_in scene base comp t test false same is e)))
 
--- within its time it shows its layers
-pub in_time : (scene : PlainScene) (index base most : ℕ) (comp : PlainComp) (t : ℤ) (test : Bool) (world : Picture) → IsAcyclic scene.project → slice_get scene.project.comps index ≡ Some comp → base ≡ base_in scene.project → most ≡ most_in scene
-    → test ≡ (int_le (pos 0) t && int_lt t (end_of_comp base comp)) → test ≡ true → world.extent ≡ frame_rect comp.width comp.height → world.part ≡ frame_rect comp.width comp.height
-    → ((x y : ℤ) → Has (frame_rect comp.width comp.height) x y → at world x y ≡ stack_over most (placed_layers (drawn_from scene) comp t 0 comp.layers) x y clear)
-    → plane_of world ≡ comp_plane (shown scene) index (slice_get scene.project.comps index) t
-in_time scene index base most comp t test world acyclic found same depth is e extent part points =
-    plane_by scene index comp t world found extent
-    (λ x y.
-    by x y (has (frame_rect comp.width comp.height) x y) refl
-    ∙ sym (comp_is scene index comp t x y acyclic found
-    ∙ ap (λ (b : Bool). if b && has (frame_rect comp.width comp.height) x y then stack_at (most_in scene) (placed_layers (drawn_from scene) comp t 0 comp.layers) x y else clear) (end_in scene base comp t test true same is e)))
+-- it shows nothing outside its frame
+pub comp_beyond : (scene : PlainScene) (index : ℕ) (comp : PlainComp) (t x y : ℤ) → IsAcyclic scene.project → slice_get scene.project.comps index ≡ Some comp → ¬ Has (frame_rect comp.width comp.height) x y → shown scene index t x y ≡ clear
+comp_beyond scene index comp t x y acyclic found none =
+    comp_is scene index comp t x y acyclic found ∙ by (int_le (pos 0) t && int_lt t (end_of_comp (base_in scene.project) comp)) (has (frame_rect comp.width comp.height) x y) refl
   where
-    by : (x y : ℤ) (b : Bool) → has (frame_rect comp.width comp.height) x y ≡ b
-        → at world x y ≡ (if has (frame_rect comp.width comp.height) x y then stack_at (most_in scene) (placed_layers (drawn_from scene) comp t 0 comp.layers) x y else clear)
-    by x y true h =
-        points x y (Has-from_true (frame_rect comp.width comp.height) x y h)
-        ∙ ap (λ (m : ℕ). stack_over m (placed_layers (drawn_from scene) comp t 0 comp.layers) x y clear) depth
-        ∙ sym (ap (λ (b : Bool). if b then stack_at (most_in scene) (placed_layers (drawn_from scene) comp t 0 comp.layers) x y else clear) h)
-    by x y false h =
-        outside world x y (ap (λ (r : Rect). has r x y) part ∙ h)
-        ∙ sym (ap (λ (b : Bool). if b then stack_at (most_in scene) (placed_layers (drawn_from scene) comp t 0 comp.layers) x y else clear) h)
+    by : (b c : Bool) → has (frame_rect comp.width comp.height) x y ≡ c → (if b && c then stack_at (most_in scene) (placed_layers (drawn_from scene) comp t 0 comp.layers) x y else clear) ≡ clear
+    by b true e = absurd (none (Has-from_true (frame_rect comp.width comp.height) x y e))
+    by true false e = refl
+    by false false e = refl
 
--- a world over the frame of a picture is no larger than a picture may be
-pub boxed_ok : {E : Type 0} (made : Result Picture E) (w h : ℕ) (frame : Rect) → frame ≡ frame_rect w h → IfOk made (λ world. world.extent ≡ frame) → w ≤ 4096 → h ≤ 4096 → IfOk made (λ world. IsBoxed 0 world.extent)
-boxed_ok (Ok world) w h frame is extent wide high = subst (IsBoxed 0) (sym (extent ∙ is)) (frame_boxed w h wide high)
-boxed_ok (Err e) w h frame is extent wide high = tt
+-- within its time it shows its layers
+pub in_time : (scene : PlainScene) (index base most : ℕ) (comp : PlainComp) (t : ℤ) (test : Bool) (world : Picture) (request : Rect) → IsAcyclic scene.project → slice_get scene.project.comps index ≡ Some comp → base ≡ base_in scene.project → most ≡ most_in scene
+    → test ≡ (int_le (pos 0) t && int_lt t (end_of_comp base comp)) → test ≡ true → world.extent ≡ frame_rect comp.width comp.height → world.part ≡ area_in (frame_rect comp.width comp.height) request
+    → ((x y : ℤ) → Has (area_in (frame_rect comp.width comp.height) request) x y → at world x y ≡ stack_over most (placed_layers (drawn_from scene) comp t 0 comp.layers) x y clear)
+    → StandsFor request (comp_plane (shown scene) index (slice_get scene.project.comps index) t) world
+in_time scene index base most comp t test world request acyclic found same depth is e extent part points =
+    subst (λ (o : Option PlainComp). StandsFor request (comp_plane (shown scene) index o t) world) (sym found)
+    (stands_in request frame (comp_plane (shown scene) index (Some comp) t) world extent part refl (λ x y none. comp_beyond scene index comp t x y acyclic found none)
+    (λ x y inside.
+    points x y inside
+    ∙ ap (λ (m : ℕ). stack_over m (placed_layers (drawn_from scene) comp t 0 comp.layers) x y clear) depth
+    ∙ sym (comp_is scene index comp t x y acyclic found
+    ∙ ap (λ (b : Bool). if b && has frame x y then stack_at (most_in scene) (placed_layers (drawn_from scene) comp t 0 comp.layers) x y else clear) (end_in scene base comp t test true same is e)
+    ∙ ap (λ (b : Bool). if b then stack_at (most_in scene) (placed_layers (drawn_from scene) comp t 0 comp.layers) x y else clear) (has-true frame x y (area_inside frame request x y inside)))))
+  where
+    frame : Rect
+    frame = frame_rect comp.width comp.height
+
+-- over its whole frame it is its plane
+pub comp_whole : {E : Type 0} (scene : PlainScene) (index : ℕ) (comp : PlainComp) (t : ℤ) (request : Rect) (made : Result Picture E) → IsAcyclic scene.project → slice_get scene.project.comps index ≡ Some comp → request ≡ frame_rect comp.width comp.height
+    → IfOk made (λ w. w.part ≡ area_in w.extent request) → IfOk made (StandsFor request (comp_plane (shown scene) index (slice_get scene.project.comps index) t))
+    → IfOk made (λ w. plane_of w ≡ comp_plane (shown scene) index (slice_get scene.project.comps index) t)
+comp_whole scene index comp t request (Err e) acyclic found all part is = tt
+comp_whole scene index comp t request (Ok world) acyclic found all part is =
+    subst (λ (o : Option PlainComp). plane_of world ≡ comp_plane (shown scene) index o t) (sym found)
+    (whole_is request (frame_rect comp.width comp.height) (comp_plane (shown scene) index (Some comp) t) world all part refl (λ x y none. comp_beyond scene index comp t x y acyclic found none)
+    (subst (λ (o : Option PlainComp). StandsFor request (comp_plane (shown scene) index o t) world) found is))
+
+pub whole_part : {E : Type 0} (scene : PlainScene) (index : ℕ) (comp : PlainComp) (t : ℤ) (request : Rect) (made : Result Picture E) → slice_get scene.project.comps index ≡ Some comp → request ≡ frame_rect comp.width comp.height
+    → 1 ≤ comp.width → 1 ≤ comp.height → IfOk made (λ w. w.part ≡ area_in w.extent request) → IfOk made (StandsFor request (comp_plane (shown scene) index (slice_get scene.project.comps index) t)) → IfOk made (λ w. w.part ≡ w.extent)
+whole_part scene index comp t request (Err e) found all wide high part is = tt
+whole_part scene index comp t request (Ok world) found all wide high part is =
+    let extent : world.extent ≡ frame_rect comp.width comp.height = is.extent ∙ ap (λ (o : Option PlainComp). (comp_plane (shown scene) index o t).extent) found in
+    part ∙ ap (λ (r : Rect). area_in r request) extent ∙ ap (area_in (frame_rect comp.width comp.height)) all ∙ whole_area comp.width comp.height wide high ∙ sym extent

@@ -13,9 +13,9 @@ abbrev pub StandsAt : {most : ℕ} → List (Kept most) → ℕ → ℤ → ℕ 
 StandsAt {most} kept comp tick place =
     (entry : Kept most) × (slice_get kept place ≡ Some entry) × (entry.comp ≡ comp) × (entry.tick.0 ≡ tick)
 
--- it is what the composition shows
+-- it is what the composition shows, over its frame
 abbrev pub IsRight : {most : ℕ} → PlainScene → Kept most → Type 0
-IsRight scene entry = plane_of entry.world ≡ plane scene (Stack entry.comp) entry.tick.0
+IsRight scene entry = (plane_of entry.world ≡ plane scene (Stack entry.comp) entry.tick.0) × (entry.world.part ≡ entry.world.extent)
 
 abbrev pub AreRight : {most : ℕ} → PlainScene → List (Kept most) → Type 0
 AreRight {most} scene kept = AllByRecursion (IsRight {most = most} scene) kept

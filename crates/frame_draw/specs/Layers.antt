@@ -1,7 +1,9 @@
 -- What is put on the stack for a layer.
 use Rattle.std.specs.Prelude.{◌≡◌, ℤ, ℕ, List, [], ◌∷◌, Option, IfSome, not, ◌&&◌, if◌then◌else◌, unsigned_abs}
 use Rattle.std.specs.Option.{option_map}
-use Rattle.comp_stack.specs.Stack.{Plane, PlacedPlane, PlacedLayer}
+use Rattle.geom_rect.specs.declared.rect.Rect.{Rect}
+use Rattle.geom_rect.specs.Rect.{Has}
+use Rattle.comp_stack.specs.Stack.{Plane, PlacedPlane, PlacedLayer, matte_at, pixel_at, source_at}
 use Rattle.comp_stack.specs.Layers.{IsShown, IsPlaced, placed_of as plane_placed, layer_of}
 use Rattle.comp_stack.specs.declared.layer.Placed.{Placed}
 use Rattle.comp_stack.specs.declared.layer.Shown.{Shown}
@@ -19,15 +21,22 @@ plane_at base t layer plane = record {
   opacity = unsigned_abs (value_at base layer.opacity t);
 }
 
--- what the matte of the layer of this index is taken from
-pub record IsOfMatte {most : ℕ} (sources : Sources) (t : ℤ) (comp : PlainComp) (index : ℕ) (layer : PlainLayer) (over : Option (Shown most)) : Type 0 where
-  pub fits : IfSome over IsShown
-  pub same : option_map plane_placed over ≡ matte_plane sources comp t index layer
+-- a placed plane that shows what this one shows at each point of the area
+pub record IsShownOn {most : ℕ} (area : Rect) (placed : PlacedPlane) (shown : Shown most) : Type 0 where
+  pub fits : IsShown shown
+  pub opacity : shown.opacity ≡ placed.opacity
+  pub points : (x y : ℤ) → Has area x y → pixel_at (plane_placed shown) x y ≡ pixel_at placed x y
 
--- the layer of this index as the stack sees it at a tick
-pub record IsOfLayer {most : ℕ} (sources : Sources) (t : ℤ) (comp : PlainComp) (index : ℕ) (layer : PlainLayer) (placed : Placed most) : Type 0 where
+-- what the matte of the layer of this index is taken from, over the area
+pub record IsOfMatte {most : ℕ} (area : Rect) (sources : Sources) (t : ℤ) (comp : PlainComp) (index : ℕ) (layer : PlainLayer) (over : Option (Shown most)) : Type 0 where
+  pub fits : IfSome over IsShown
+  pub points : (x y : ℤ) → Has area x y → matte_at (option_map plane_placed over) x y ≡ matte_at (matte_plane sources comp t index layer) x y
+
+-- the layer of this index as the stack sees it at a tick, over the area
+pub record IsOfLayer {most : ℕ} (area : Rect) (sources : Sources) (t : ℤ) (comp : PlainComp) (index : ℕ) (layer : PlainLayer) (placed : Placed most) : Type 0 where
   pub fits : IsPlaced placed
-  pub same : layer_of placed ≡ placed_of sources comp t index layer
+  pub mode : placed.mode ≡ (placed_of sources comp t index layer).mode
+  pub points : (x y : ℤ) → Has area x y → source_at most (layer_of placed) x y ≡ source_at most (placed_of sources comp t index layer) x y
 
 -- what the layer of this index brings to the stack at a tick: itself, where it is seen and is no matte
 abbrev pub brought : Sources → PlainComp → ℤ → ℕ → PlainLayer → List PlacedLayer

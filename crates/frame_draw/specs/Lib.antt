@@ -1,3 +1,4 @@
+pub mod Areas
 pub mod Drawn
 pub mod Kept
 pub mod Layers

@@ -7,7 +7,6 @@ ghost use Rattle.project_model.specs.Bounds.{most_of, most_frames};
 ghost use Rattle.project_model.specs.Sound.{IsPictureSize, IsSoundClip};
 ghost use Rattle.comp_stack.specs.Layers.{plane_of};
 ghost use Rattle.effect_api.specs.Sets.{EffectSet, Drawing};
-ghost use Rattle.scene_meaning.specs.Boxes.{IsBoxed};
 ghost use Rattle.scene_meaning.specs.Scene.{plain_scene};
 ghost use Rattle.scene_meaning.specs.Shown.{base_in, clip_plane, picture_at};
 ghost use Rattle.rational_time.specs.Times.{tick_of};
@@ -32,8 +31,7 @@ pub(crate) fn clip_world<const MAX: u32>(
 ) -> Result<World<MAX>, Memory>
     requires depth { MAX ≡ most_of scene.now.project.depth }
     requires clip { index < length scene.now.project.clips }
-    ensures plane { (set : EffectSet) (drawing : Drawing) → IfOk result (λ world. plane_of world ≡ clip_plane (plain_scene scene.now set drawing) index tick.0) }
-    ensures boxed { IfOk result (λ world. IsBoxed 0 world.extent) }
+    ensures { (set : EffectSet) (drawing : Drawing) → IfOk result (λ world. plane_of world ≡ clip_plane (plain_scene scene.now set drawing) index tick.0) }
 {
     let declared = clip_use_at(scene, index);
     let picture = frame_of(tick, frame_ticks(base_of(scene), declared));

@@ -10,7 +10,7 @@ ghost use Rattle.effect_api.specs.Fits.{IsHeld};
 ghost use Rattle.frame_draw.specs.Drawn.{IsFrame};
 
 use crate::count::count_uses;
-use crate::draw::draw_comp;
+use crate::draw::whole_comp;
 use crate::planes::Planes;
 use argb_world::World;
 use effect_api::Draw;
@@ -41,7 +41,7 @@ pub fn draw_frame<E: Draw<MAX>, const MAX: u32>(
         kept: Vec::new(alloc),
     };
     count_uses(scene, &mut planes.uses, root, tick)?;
-    draw_comp(alloc, scene, effects, &mut planes, root, tick)
+    whole_comp(alloc, scene, effects, &mut planes, root, tick)
 }
 
 // The tick at which a frame of the root begins.

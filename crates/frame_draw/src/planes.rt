@@ -2,9 +2,12 @@
 ghost use Rattle.std.specs.Prelude.{◌≡◌, IfOk, IfSome};
 ghost use Rattle.argb_pixel.specs.Depth.{IsDepth};
 ghost use Rattle.comp_stack.specs.Layers.{plane_of};
+ghost use Rattle.frame_draw.specs.Areas.{StandsFor};
 ghost use Rattle.frame_draw.specs.Kept.{StandsAt};
 
+use crate::layers::area_in;
 use argb_world::World;
+use geom_rect::Rect;
 use host_io::Memory;
 use rational_time::Tick;
 use std::alloc::Global;
@@ -71,12 +74,14 @@ pub(crate) fn find_kept<const MAX: u32>(kept: &[Kept<MAX>], comp: u32, tick: Tic
     None
 }
 
-/// The same plane once more.
-pub(crate) fn copied<const MAX: u32>(
+/// The same plane where it is requested.
+pub(crate) fn part_of<const MAX: u32>(
     alloc: Global,
     world: &World<MAX>,
+    request: Rect,
 ) -> Result<World<MAX>, Memory>
-    ensures { IfOk result (λ copy. plane_of copy ≡ plane_of world.now) }
+    requires { world.now.part ≡ world.now.extent }
+    ensures { IfOk result (StandsFor request (plane_of world.now)) }
 {
-    world.crop(alloc, world.part())
+    world.crop(alloc, area_in(&world.part(), &request))
 }

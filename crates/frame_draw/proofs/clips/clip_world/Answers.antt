@@ -1,4 +1,4 @@
-use Rattle.std.proofs.Common.{ℕ, ◌≡◌, refl, subst, sym, ap, ◌∙◌, arith, w64, rules}
+use Rattle.std.proofs.Common.{ℕ, ◌≡◌, subst, sym, ap, ◌∙◌, arith, w64, rules}
 use Rattle.std.specs.Int.RustNames.{FitsSigned}
 use Rattle.std.proofs.lemmas.Int.{to_z-of_z}
 use Rattle.project_model.specs.Sound.{IsSoundClip}
@@ -6,7 +6,6 @@ use Rattle.rational_time.specs.Times.{frame_at, tick_of}
 use Rattle.scene_meaning.specs.Scene.{plain_scene}
 use Rattle.frame_draw.proofs.Drawing.{shaped}
 use Rattle.frame_draw.proofs.Drawing.{plane_ok, most_is_depth}
-use Rattle.frame_draw.proofs.Placing.{boxed_ok}
 use Rattle.frame_draw.proofs.clips.clip_world.Goals as goal
 
 pub frame_ticks-requires : goal.frame_ticks-requires
@@ -20,8 +19,8 @@ picture_world-requires g c =
     let shape = shaped _ c.clip_use_at-declared.result.now c.clip.result.now c.clip_use_at-declared.ensures.sound (c.clip.ensures.declared c.clip_use_at-declared.result.now c.clip_use_at-declared.ensures.here) in
     (omega arith, (most_is_depth g.row.MAX c.args.scene.now.project.depth c.requires.depth, (shape.size, shape.frames)))
 
-pub returns-clause-plane : goal.returns-clause-plane
-returns-clause-plane g c =
+pub returns : goal.returns
+returns g c =
     let declared = c.clip_use_at-declared.result.now in
     let wide : FitsSigned w64 c.frame_ticks.result = search rules in
     let number : c.frame_of-picture.result ≡ frame_at c.args.tick.0 c.frame_ticks.result = simp to_z-of_z at c.frame_of-picture.ensures.value in
@@ -31,8 +30,3 @@ returns-clause-plane g c =
     c.requires.depth c.clip_use_at-declared.ensures.here c.clip.ensures.clip number
     (c.frame_ticks.ensures.value ∙ ap (λ (b : ℕ). tick_of b declared.frame) c.base_of.ensures.ticks)
     c.picture_world.ensures.extent (simp to_z-of_z at c.picture_world.ensures.points)
-
-pub returns-clause-boxed : goal.returns-clause-boxed
-returns-clause-boxed g c =
-    let shape = shaped _ c.clip_use_at-declared.result.now c.clip.result.now c.clip_use_at-declared.ensures.sound (c.clip.ensures.declared c.clip_use_at-declared.result.now c.clip_use_at-declared.ensures.here) in
-    boxed_ok c.picture_world.result c.clip.result.now.width c.clip.result.now.height _ refl c.picture_world.ensures.extent shape.size.width_bound shape.size.height_bound

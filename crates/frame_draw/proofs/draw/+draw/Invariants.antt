@@ -8,6 +8,7 @@ use Rattle.project_model.specs.Plain.{plain_comp, plain_of}
 use Rattle.effect_api.specs.Sets.{EffectSet, Drawing}
 use Rattle.scene_meaning.specs.Scene.{plain_scene}
 use Rattle.scene_meaning.specs.Shown.{placed_layers}
+use Rattle.frame_draw.specs.Areas.{area_in}
 use Rattle.frame_draw.specs.Kept.{AreRight}
 use Rattle.project_model.specs.Plain.{plain_layer}
 use Rattle.scene_meaning.specs.Parts.{drawn_from}
@@ -47,8 +48,11 @@ decreases-wanted_world g l = 64 * stack_rank (plain_of l.scene.now.project) l.of
 abbrev pub decreases-source_world : goal.decreases-source_world
 decreases-source_world g l = 64 * source_rank (stack_rank (plain_of l.scene.now.project)) l.layer.now.source
 
+abbrev pub decreases-whole_comp : goal.decreases-whole_comp
+decreases-whole_comp g l = 64 * stack_rank (plain_of l.scene.now.project) l.index + 61
+
 abbrev pub decreases-comp_world : goal.decreases-comp_world
-decreases-comp_world g l = 64 * stack_rank (plain_of l.scene.now.project) l.index + 61
+decreases-comp_world g l = 64 * stack_rank (plain_of l.scene.now.project) l.index + 62
 
 -- the layers so far, from the last one on
 abbrev pub invariant-draw_comp-loop-done : goal.invariant-draw_comp-loop-done
@@ -68,9 +72,9 @@ invariant-draw_comp-loop-done g l =
     record {
       count : l.count ≡ length l.comp.layers;
       extent : l.ground.extent ≡ frame;
-      part : l.ground.part ≡ frame;
+      part : l.ground.part ≡ area_in frame l.fn.request;
       kept : AreRight {most = g.row.MAX} scene l.planes.kept.items;
-      drawn : (x y : ℤ) → Has frame x y
+      drawn : (x y : ℤ) → Has (area_in frame l.fn.request) x y
           → at l.ground x y ≡ stack_over g.row.MAX (placed_layers (drawn_from scene) comp l.tick.0 (l.count - l.done) (drop (l.count - l.done) comp.layers)) x y clear;
     }
 
@@ -89,8 +93,8 @@ invariant-check_out-loop-place g l =
     let scene = plain_scene l.scene set drawing in
     record {
       kept : AreRight {most = g.row.MAX} scene l.planes.kept.items;
-      room : length l.wants ≤ l.pixels.room;
+      room : length l.checkouts ≤ l.pixels.room;
       count : length l.pixels.pairs ≡ l.place;
       drawn : AreDrawn l.pixels.pairs;
-      wanted : AreWanted l.number (wanted_by (drawn_from scene) (plain_comp l.comp) (plain_layer l.layer) l.number l.fx.layers) (take l.place l.wants) l.pixels.pairs;
+      wanted : AreWanted (wanted_by (drawn_from scene) (plain_comp l.comp) (plain_layer l.layer) l.number l.fx.layers) (take l.place l.checkouts) l.pixels.pairs;
     }

@@ -6,5 +6,5 @@ use Rattle.frame_draw.proofs.frame.draw_frame.Goals as goal
 pub returns : goal.returns
 returns g c =
     let project = c.project.result.now in
-    frame_ok _ _ c.args.scene.now c.args.frame project.root c.root_tick-tick.result.0 c.draw_comp.result (ap (λ (p : Project). p.root) c.project.ensures.project)
-    (subst (λ (p : Project). project.root < length p.comps) c.project.ensures.project c.project.ensures.sound.root) c.root_tick-tick.ensures.tick c.draw_comp.ensures.plane c.draw_comp.ensures.part
+    frame_ok _ _ c.args.scene.now c.args.frame project.root c.root_tick-tick.result.0 c.whole_comp.result (ap (λ (p : Project). p.root) c.project.ensures.project)
+    (subst (λ (p : Project). project.root < length p.comps) c.project.ensures.project c.project.ensures.sound.root) c.root_tick-tick.ensures.tick c.whole_comp.ensures.plane c.whole_comp.ensures.part
