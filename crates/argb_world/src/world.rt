@@ -116,6 +116,14 @@ impl<const MAX: u32> World<MAX> {
         self.part
     }
 
+    /// Its picture has a pixel for each point of its part. The call does nothing: its contract is the fact.
+    #[inline(always)]
+    pub fn pixels_fill_part(&self)
+        ensures { IsPicture self.now }
+    {
+        let _part = self.part;
+    }
+
     /// The one colour that it has at each point of its part, where it is kept as one.
     pub fn colour(&self) -> Option<Pixel<MAX>>
         ensures { IfSome result (λ colour. (x y : ℤ) → Has self.now.part x y → at self.now x y ≡ colour) }

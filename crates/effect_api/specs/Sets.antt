@@ -1,6 +1,5 @@
 -- An effect set as a value: its functions, and the laws that hold of them.
-use Rattle.std.specs.Prelude.{◌≡◌, ℕ, ◌≤◌, ℤ, List, [], length}
-use Rattle.std.specs.List.{All}
+use Rattle.std.specs.Prelude.{◌≡◌, ℕ, ◌≤◌, ℤ, List, length}
 use Rattle.geom_rect.specs.declared.rect.Rect.{Rect}
 use Rattle.argb_pixel.specs.Pixel.{Argb}
 use Rattle.comp_stack.specs.Stack.{Plane}
@@ -47,8 +46,3 @@ pub record IsLawfulDrawing (most : ℕ) (set : EffectSet) (drawing : Drawing) : 
   pub draws_locally : (fx : Use) (at : Moment) (extents : List Rect) → IsGiven set.schemas fx at
       → IsLocal most drawing.sums_of (set.wants fx at) (set.asks fx at) extents (λ rect i. set.need fx at extents i rect) (drawing.draws fx at)
   pub sums_are_few : (class ask : ℕ) (plane : Plane) → length (drawing.sums_of class ask plane) ≤ 65536
-
--- each effect of the set draws from planes at its own tick, and from no analysis
-pub record IsSteady (set : EffectSet) : Type 0 where
-  pub own_tick : (fx : Use) (at : Moment) → IsGiven set.schemas fx at → All (λ (want : Want). want.tick ≡ at.tick) (set.wants fx at)
-  pub no_asks : (fx : Use) (at : Moment) → IsGiven set.schemas fx at → set.asks fx at ≡ []

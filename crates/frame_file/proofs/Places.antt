@@ -16,6 +16,14 @@ place_within picture frames w h x y p c r =
     let all : w * (picture * h + y + 1) ≤ w * (frames * h) = mul-le-mul_left w rows in
     omega (arith, all)
 
+-- so many points from one to the right are pixels of the clip
+pub span_within : (picture frames w h x y n : ℕ) → picture < frames → y < h → x + n ≤ w → (picture * h + y) * w + x + n ≤ frames * (w * h)
+span_within picture frames w h x y n p r c =
+    let more : picture + 1 ≤ frames = omega arith in
+    let rows : picture * h + y + 1 ≤ frames * h = omega (arith, mul-le-mul_left h more) in
+    let all : w * (picture * h + y + 1) ≤ w * (frames * h) = mul-le-mul_left w rows in
+    omega (arith, all)
+
 -- the bytes from a place on, as a slice of all
 abbrev pub behind : ℕ → List ℕ → List ℕ
 behind n xs = take (length xs - n) (drop n xs)
@@ -101,15 +109,13 @@ read_at_8 most pixels n pixel result room is made =
     made ∙ ap (in_depth 255 most) (is ∙ ap head_of_8 (rest_is (n * 4) pixels) ∙ sym (found_at n _ _ _ (at_8 pixels n room)))
 
 -- the bytes behind the header, as a slice of all
-pub row_room_8 : (xs ys : List ℕ) (depth picture frames w h y start long : ℕ) → depth ≡ 8 → ys ≡ xs → picture < frames → y < h → start ≡ (picture * h + y) * w → long ≡ w
+pub row_room_8 : (xs ys : List ℕ) (depth picture frames w h x y start long : ℕ) → depth ≡ 8 → ys ≡ xs → picture < frames → y < h → x + long ≤ w → start ≡ (picture * h + y) * w + x
     → length xs ≡ header_length + frames * (w * h) * pixel_size depth → (start + long) * 4 ≤ length (behind header_length ys)
-row_room_8 xs ys depth picture frames w h y start long e s p r is l all =
-    let more : picture + 1 ≤ frames = omega arith in
-    let rows : picture * h + y + 1 ≤ frames * h = omega (arith, mul-le-mul_left h more) in
-    let points : w * (picture * h + y + 1) ≤ w * (frames * h) = mul-le-mul_left w rows in
+row_room_8 xs ys depth picture frames w h x y start long e s p r c is all =
+    let within = span_within picture frames w h x y long p r c in
     let count : length xs ≡ 29 + frames * (w * h) * 4 = all ∙ ap (λ k. header_length + frames * (w * h) * pixel_size k) e in
     let here : length (behind header_length ys) ≡ length xs - 29 = ap length (rest_is header_length ys ∙ ap (drop header_length) s) ∙ length-drop 29 xs in
-    omega (arith, points, count, here, is, l)
+    omega (arith, within, count, here, is)
 
 pub row_sound_8 : (xs ys : List ℕ) (depth : ℕ) → depth ≡ 8 → ys ≡ xs → first_bad (most_of depth) (pixels_of depth (drop header_length xs)) ≡ None → first_bad 255 (pixels_of_8 (behind header_length ys)) ≡ None
 row_sound_8 xs ys depth e s sound =
@@ -134,15 +140,13 @@ read_at_16 most pixels n pixel result room is made =
     made ∙ ap (in_depth 32768 most) (is ∙ ap head_of_16 (rest_is (n * 8) pixels) ∙ sym (found_at n _ _ _ (at_16 pixels n room)))
 
 -- the bytes behind the header, as a slice of all
-pub row_room_16 : (xs ys : List ℕ) (depth picture frames w h y start long : ℕ) → depth ≡ 16 → ys ≡ xs → picture < frames → y < h → start ≡ (picture * h + y) * w → long ≡ w
+pub row_room_16 : (xs ys : List ℕ) (depth picture frames w h x y start long : ℕ) → depth ≡ 16 → ys ≡ xs → picture < frames → y < h → x + long ≤ w → start ≡ (picture * h + y) * w + x
     → length xs ≡ header_length + frames * (w * h) * pixel_size depth → (start + long) * 8 ≤ length (behind header_length ys)
-row_room_16 xs ys depth picture frames w h y start long e s p r is l all =
-    let more : picture + 1 ≤ frames = omega arith in
-    let rows : picture * h + y + 1 ≤ frames * h = omega (arith, mul-le-mul_left h more) in
-    let points : w * (picture * h + y + 1) ≤ w * (frames * h) = mul-le-mul_left w rows in
+row_room_16 xs ys depth picture frames w h x y start long e s p r c is all =
+    let within = span_within picture frames w h x y long p r c in
     let count : length xs ≡ 29 + frames * (w * h) * 8 = all ∙ ap (λ k. header_length + frames * (w * h) * pixel_size k) e in
     let here : length (behind header_length ys) ≡ length xs - 29 = ap length (rest_is header_length ys ∙ ap (drop header_length) s) ∙ length-drop 29 xs in
-    omega (arith, points, count, here, is, l)
+    omega (arith, within, count, here, is)
 
 pub row_sound_16 : (xs ys : List ℕ) (depth : ℕ) → depth ≡ 16 → ys ≡ xs → first_bad (most_of depth) (pixels_of depth (drop header_length xs)) ≡ None → first_bad 32768 (pixels_of_16 (behind header_length ys)) ≡ None
 row_sound_16 xs ys depth e s sound =

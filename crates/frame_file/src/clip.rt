@@ -1,15 +1,16 @@
 //! Clips: pictures that were read from the bytes of a file.
-ghost use Rattle.std.specs.Prelude.{◌≡◌, ℕ, ◌+◌, ◌*◌, ◌<◌, ◌≤◌, length, drop, get_or, slice_index_or, None, Ok, Err, IfOk, IfErr, IsErrOf, MatchResult};
+ghost use Rattle.std.specs.Prelude.{◌≡◌, ℕ, ◌+◌, ◌*◌, ◌<◌, ◌≤◌, length, take, drop, get_or, slice_index_or, None, Ok, Err, IfOk, IfErr, IsErrOf, MatchResult};
 ghost use Rattle.std.specs.List.{All};
 ghost use Rattle.argb_pixel.specs.Depth.{IsDepth};
 ghost use Rattle.argb_pixel.specs.Pixel.{IsPremultiplied, clear};
+ghost use Rattle.argb_pixel.specs.Packed.{pixel_size, pixels_of as packed_pixels, IsPacked};
 ghost use Rattle.project_model.specs.Bounds.{most_of, greatest_side, most_frames, header_length};
 ghost use Rattle.project_model.specs.Clip.{IsReadable, clip_length};
 ghost use Rattle.frame_file.specs.Clip.{pictures_of, pixels_of, pixels_of_8, pixels_of_16, first_bad, clip_of, judged, pixel_in, in_depth, head_of_8, head_of_16, IsKept};
 
 use crate::ClipError;
 use crate::judge::{HEADER_LENGTH, channel_of, judge};
-use argb_pixel::Pixel;
+use argb_pixel::{Pixel, pixel_size};
 use project_model::ClipUse;
 use std::alloc::Global;
 use std::marker::Model;
@@ -145,7 +146,19 @@ impl Clip {
         requires width { length into.old ≡ self.now.width }
         ensures { (x : ℕ) → x < self.now.width → slice_index_or into.new x clear ≡ pixel_in MAX self.now picture x y }
     {
-        let start = row_start(self.width, self.height, picture, y);
+        self.read_span(picture, 0, y, into);
+    }
+
+    /// The pixels of a row of points of a picture, from `(x, y)` to the right, counted from its left top, in the depth `MAX`, as
+    /// many as `into` has room for. All points are in the picture, and the clip has the picture, counted from 0.
+    pub fn read_span<const MAX: u32>(&self, picture: u32, x: u32, y: u32, into: &mut [Pixel<MAX>])
+        requires depth { IsDepth MAX }
+        requires picture { picture < self.now.frames }
+        requires row { y < self.now.height }
+        requires columns { x + length into.old ≤ self.now.width }
+        ensures { (k : ℕ) → k < length into.old → slice_index_or into.new k clear ≡ pixel_in MAX self.now picture (x + k) y }
+    {
+        let start = place_in(self.width, self.height, picture, x, y);
         let pixels = &self.bytes[HEADER_LENGTH..];
         if self.depth == 8 {
             read_8(pixels, start, into);
@@ -153,29 +166,47 @@ impl Clip {
             read_16(pixels, start, into);
         }
     }
+
+    /// The bytes of so many pixels of a picture, from the point `(x, y)` to the right, counted from its left top, as they stand in
+    /// the file: alpha, red, green and blue, one byte each where `MAX` is 255 and two, the greater part first, where it is 32768.
+    /// The clip is of the depth `MAX` and has the picture, counted from 0, and all points are in it.
+    pub fn packed_span<const MAX: u32>(&self, picture: u32, x: u32, y: u32, count: usize) -> &[u8]
+        requires depth { most_of self.now.depth ≡ MAX }
+        requires picture { picture < self.now.frames }
+        requires row { y < self.now.height }
+        requires columns { x + count ≤ self.now.width }
+        ensures long { length result.now ≡ pixel_size MAX * count }
+        ensures packed { IsPacked MAX result.now }
+        ensures pixels { (k : ℕ) → k < count → slice_index_or (packed_pixels MAX result.now) k clear ≡ pixel_in MAX self.now picture (x + k) y }
+    {
+        let start = place_in(self.width, self.height, picture, x, y);
+        packed_part::<MAX>(&self.bytes[HEADER_LENGTH..], start, count)
+    }
 }
 
-// A pixel's place among all pixels.
+// The bytes of so many pixels from a place on.
+fn packed_part<const MAX: u32>(pixels: &[u8], start: usize, count: usize) -> &[u8]
+    requires depth { IsDepth MAX }
+    requires there { pixel_size MAX * (start + count) ≤ length pixels.now }
+    requires packed { IsPacked MAX pixels.now }
+    ensures long { length result.now ≡ pixel_size MAX * count }
+    ensures packed { IsPacked MAX result.now }
+    ensures pixels { packed_pixels MAX result.now ≡ take count (drop start (packed_pixels MAX pixels.now)) }
+{
+    let size = pixel_size::<MAX>();
+    &pixels[size * start..size * (start + count)]
+}
+
+// A pixel's place among all pixels: the end of a row has one too.
 fn place_in(width: u32, height: u32, picture: u32, x: u32, y: u32) -> usize
     requires width { width ≤ greatest_side }
     requires height { height ≤ greatest_side }
     requires picture { picture < most_frames }
-    requires column { x < width }
+    requires column { x ≤ width }
     requires row { y < height }
     ensures { result ≡ (picture * height + y) * width + x }
 {
     (picture as usize * height as usize + y as usize) * width as usize + x as usize
-}
-
-// The place of the first pixel of a row among all pixels.
-fn row_start(width: u32, height: u32, picture: u32, y: u32) -> usize
-    requires width { width ≤ greatest_side }
-    requires height { height ≤ greatest_side }
-    requires picture { picture < most_frames }
-    requires row { y < height }
-    ensures { result ≡ (picture * height + y) * width }
-{
-    (picture as usize * height as usize + y as usize) * width as usize
 }
 
 // The pixels from a place on, of one byte a channel.

@@ -16,7 +16,7 @@ use Rattle.effect_api.specs.declared.moment.Moment.{Moment}
 use Rattle.effect_api.specs.Fits.{FitsSchema, param_of}
 use Rattle.effect_api.specs.Planes.{extents_of}
 use Rattle.effect_api.specs.Effects.{IsInput, IsDrawing, IsLocal}
-use Rattle.effect_api.specs.Own.{own_wants, own_bounds, no_sums}
+use Rattle.effect_api.specs.Own.{own_wants, own_bounds}
 use Rattle.effect_api.specs.Laws.{part_within, schemas_from_test, value_in_range, each_point_drawing, each_point_local}
 use Rattle.fx_color.specs.Formulas.{with_colours, inverted_part, threshold_part, channel_of, held_below, scaled_part, tinted_part, byte_at, mapped_part}
 use Rattle.fx_color.specs.Parts.{mixed_within, mean_within}
@@ -157,12 +157,12 @@ recoloured_clear kind fx at known = by_kind (λ k. recoloured k fx at clear ≡ 
     palette = cleared _ _ _ (within_none _ (mapped_within fx.sequence _ 0)) (within_none _ (mapped_within fx.sequence _ 0)) (within_none _ (mapped_within fx.sequence _ 0))
 
 -- what a colour effect draws is a picture within its bounds
-pub color_drawing : (most kind : ℕ) (fx : Use) (at : Moment) (planes : List Plane) (sums : List (List ℕ)) → kind < 6 → FitsSchema (schema_of color_schemas kind) fx
-    → IsInput most no_sums (own_wants at) [] planes sums → IsDrawing most (own_bounds (extents_of planes)) (color_draws kind fx at planes)
-color_drawing most kind fx at planes sums known fits given =
-    each_point_drawing most no_sums [] at planes sums (recoloured kind fx at) (recoloured_keeps most kind fx at known fits) given
+pub color_drawing : (most : ℕ) (sums_of : ℕ → ℕ → Plane → List ℕ) (kind : ℕ) (fx : Use) (at : Moment) (planes : List Plane) (sums : List (List ℕ)) → kind < 6 → FitsSchema (schema_of color_schemas kind) fx
+    → IsInput most sums_of (own_wants at) [] planes sums → IsDrawing most (own_bounds (extents_of planes)) (color_draws kind fx at planes)
+color_drawing most sums_of kind fx at planes sums known fits given =
+    each_point_drawing most sums_of [] at planes sums (recoloured kind fx at) (recoloured_keeps most kind fx at known fits) given
 
 -- and depends on no other point
-pub color_local : (most kind : ℕ) (fx : Use) (at : Moment) (extents : List Rect)
-    → IsLocal most no_sums (own_wants at) [] extents (λ rect i. rect) (λ planes sums. color_draws kind fx at planes)
-color_local most kind fx at extents = each_point_local most no_sums [] at extents (recoloured kind fx at)
+pub color_local : (most : ℕ) (sums_of : ℕ → ℕ → Plane → List ℕ) (kind : ℕ) (fx : Use) (at : Moment) (extents : List Rect)
+    → IsLocal most sums_of (own_wants at) [] extents (λ rect i. rect) (λ planes sums. color_draws kind fx at planes)
+color_local most sums_of kind fx at extents = each_point_local most sums_of [] at extents (recoloured kind fx at)

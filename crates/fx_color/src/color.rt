@@ -147,9 +147,9 @@ impl<const MAX: u32> Draw<MAX> for Color {
         Ok(Vec::new(alloc))
     }
 
-    ghost draws_are = { λ fx at planes sums given input. color_drawing MAX fx.kind fx at planes sums given.fits.known (fits_schema color_schemas fx given.fits) input };
+    ghost draws_are = { λ fx at planes sums given input. color_drawing MAX no_sums fx.kind fx at planes sums given.fits.known (fits_schema color_schemas fx given.fits) input };
 
-    ghost draws_locally = { λ fx at extents given. color_local MAX fx.kind fx at extents };
+    ghost draws_locally = { λ fx at extents given. color_local MAX no_sums fx.kind fx at extents };
 
     ghost sums_are_few = { λ class ask plane. no_sums_few class ask plane };
 }

@@ -21,7 +21,6 @@ use Rattle.effect_api.specs.Fits.{IsHeld, FitsSchema}
 use Rattle.effect_api.specs.Planes.{IsPlane, HasSides, AgreeOn, plane_at, extent_at, extents_of, cover_all}
 use Rattle.effect_api.specs.Wants.{IsWant, AreWants, IsBounds}
 use Rattle.effect_api.specs.Effects.{IsInput, IsDrawing, IsLocal}
-use Rattle.effect_api.specs.Own.{no_sums}
 use Rattle.effect_api.specs.Laws.{schemas_from_test, part_within, own_wants_are, extent_of_plane}
 use Rattle.fx_color.specs.Color.{amount_of, number_of}
 use Rattle.fx_color.specs.Laws.{number_within}
@@ -232,9 +231,9 @@ some_planes DropShadow at = omega arith
 some_planes Displace at = omega arith
 
 -- what a spatial effect draws is a picture within its bounds
-pub spatial_drawing : (most : ℕ) (kind : SpatialKind) (fx : Use) (at : Moment) (planes : List Plane) (sums : List (List ℕ)) → FitsSchema (spatial_schema kind) fx
-    → IsInput most no_sums (spatial_wants kind at) [] planes sums → IsDrawing most (spatial_bounds kind fx at (extents_of planes)) (spatial_draws most kind fx at planes)
-spatial_drawing most kind fx at planes sums fits given =
+pub spatial_drawing : (most : ℕ) (sums_of : ℕ → ℕ → Plane → List ℕ) (kind : SpatialKind) (fx : Use) (at : Moment) (planes : List Plane) (sums : List (List ℕ)) → FitsSchema (spatial_schema kind) fx
+    → IsInput most sums_of (spatial_wants kind at) [] planes sums → IsDrawing most (spatial_bounds kind fx at (extents_of planes)) (spatial_draws most kind fx at planes)
+spatial_drawing most sums_of kind fx at planes sums fits given =
     subst (λ (e : Rect). IsDrawing most (bounds_over kind fx at e) (spatial_draws most kind fx at planes)) (sym (extent_of_plane planes 0))
     (drawing_over most kind fx at planes fits given.depth (given.planes_are 0 _ (omega (arith, some_planes kind at, given.one_each))))
 
@@ -323,9 +322,9 @@ local_over most Displace fx at planes others rect fits depth same agree second x
     displaced_local most (number_of fx 0 at) (number_of fx 1 at) (plane_at planes 0) (plane_at others 0) (plane_at planes 1) (plane_at others 1) rect depth map.0 same agree map.1 x y h
 
 -- and it is drawn from what is needed alone
-pub spatial_local : (most : ℕ) (kind : SpatialKind) (fx : Use) (at : Moment) (extents : List Rect) → FitsSchema (spatial_schema kind) fx
-    → IsLocal most no_sums (spatial_wants kind at) [] extents (λ rect i. spatial_need kind fx at extents i rect) (λ planes sums. spatial_draws most kind fx at planes)
-spatial_local most kind fx at extents fits rect planes others sums given other_given extents_are other_extents agree x y inside =
+pub spatial_local : (most : ℕ) (sums_of : ℕ → ℕ → Plane → List ℕ) (kind : SpatialKind) (fx : Use) (at : Moment) (extents : List Rect) → FitsSchema (spatial_schema kind) fx
+    → IsLocal most sums_of (spatial_wants kind at) [] extents (λ rect i. spatial_need kind fx at extents i rect) (λ planes sums. spatial_draws most kind fx at planes)
+spatial_local most sums_of kind fx at extents fits rect planes others sums given other_given extents_are other_extents agree x y inside =
     local_over most kind fx at planes others rect fits given.depth same
     (subst (λ (e : Rect). AgreeOn (need_over kind fx at e rect) (plane_at planes 0) (plane_at others 0)) first_is (agree 0 (omega (arith, some_planes kind at, given.one_each))))
     (λ two. (given.planes_are 1 _ (omega (arith, two, given.one_each)), agree 1 (omega (arith, two, given.one_each)))) x y inside

@@ -4,6 +4,7 @@
 mod cause;
 mod clips;
 mod disk;
+mod gate;
 mod sink;
 mod source;
 mod standard;
@@ -12,6 +13,7 @@ mod status;
 pub use cause::{Failed, Memory, SinkError};
 pub use clips::{ClipStore, MemClips, NeverClips};
 pub use disk::{DiskClips, FolderClips};
+pub use gate::{Gate, NoGate};
 pub use sink::{MemSink, NeverSink, Sink};
 pub use source::{MemSource, NeverSource, Source};
 pub use standard::{Reading, StdNotes, StdSink, StdSource, Writing};
