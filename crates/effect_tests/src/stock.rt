@@ -34,7 +34,7 @@ fn rect(left: i32, top: i32, right: i32, bottom: i32) -> Rect
 #[test]
 fn kinds_have_their_names_and_places(rt: HostRuntime) -> Result<(), Fail> {
     let (schemas, classes) = described(rt.alloc(), &Stock)?;
-    assert_eq!(rt; classes, 0);
+    assert_eq!(rt; classes, 2);
     let names = [
         "Invert",
         "Threshold",
@@ -47,9 +47,16 @@ fn kinds_have_their_names_and_places(rt: HostRuntime) -> Result<(), Fail> {
         "Mosaic",
         "DropShadow",
         "Displace",
+        "Echo",
+        "PosterizeTime",
+        "FrameDifference",
+        "TimeMean",
+        "AutoLevels",
+        "Equalize",
+        "Deflicker",
     ];
-    let counts = [1, 1, 3, 2, 7, 0, 2, 1, 1, 6, 2];
-    assert_eq!(rt; schemas.len(), 11);
+    let counts = [1, 1, 3, 2, 7, 0, 2, 1, 1, 6, 2, 3, 1, 1, 1, 1, 0, 1];
+    assert_eq!(rt; schemas.len(), 18);
     for (kind, schema) in schemas.iter().enumerate() {
         assert_eq!(rt; schema.name.as_str(), names[kind]);
         assert_eq!(rt; schema.params.as_slice().len(), counts[kind]);
@@ -63,7 +70,7 @@ fn a_palette_has_whole_entries(rt: HostRuntime) -> Result<(), Fail> {
     let (schemas, _) = described(rt.alloc(), &Stock)?;
     let rule = match schemas.get(5) {
         Some(palette) => palette.sequence,
-        None => return Err("eleven kinds")?,
+        None => return Err("there are eighteen kinds")?,
     };
     let two = read_sequence(rt.alloc(), "000000ffffff", rule)?;
     assert_eq!(rt; two.bytes(), [0, 0, 0, 255, 255, 255].as_slice());

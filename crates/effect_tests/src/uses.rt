@@ -40,8 +40,8 @@ pub fn constant(alloc: Global, value: i32) -> Result<Stream, Memory>
     }
 }
 
-// A stream for each value.
-fn constants(alloc: Global, values: &[i32]) -> Result<Vec<Stream>, Memory>
+/// A stream for each value.
+pub(crate) fn constants(alloc: Global, values: &[i32]) -> Result<Vec<Stream>, Memory>
     ensures { IfOk result (λ streams. AreConstants values.now streams.items) }
 {
     let mut streams = Vec::new(alloc);

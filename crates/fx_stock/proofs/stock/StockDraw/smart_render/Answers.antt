@@ -3,10 +3,10 @@ use Rattle.std.proofs.lemmas.Result.{on_ok_weaker}
 use Rattle.comp_stack.specs.Stack.{Plane}
 use Rattle.project_model.specs.Effects.{use_of}
 use Rattle.effect_api.specs.Fits.{FitsSchema}
-use Rattle.effect_api.specs.Checked.{planes_of, sums_in, AreChecked}
+use Rattle.effect_api.specs.Checked.{planes_of, sums_in, AreChecked, AreSums}
 use Rattle.fx_color.specs.Color.{color_draws}
 use Rattle.fx_stock.specs.declared.part.Part.{Part}
-use Rattle.fx_stock.specs.Stock.{IsPart, part_schema, part_wants, part_draws}
+use Rattle.fx_stock.specs.Stock.{IsPart, part_schema, part_wants, part_asks, part_draws, stock_sums}
 use Rattle.fx_stock.specs.Laws.{fits_part}
 use Rattle.fx_stock.proofs.stock.StockDraw.smart_render.Goals as goal
 
@@ -32,6 +32,48 @@ draw_spatial-requires g c =
             (
               c.requires.based,
               (subst (λ (p : Part). AreChecked (part_wants p fx c.args.at) c.args.at c.args.pixels.now.pairs) is c.requires.pixels, c.requires.part),
+            ),
+          ),
+        ),
+      ),
+    )
+
+pub draw_time-requires : goal.draw_time-requires
+draw_time-requires g c =
+    let fx = use_of c.args.fx.now in
+    let is = sym c.part_of.ensures ∙ c.in-Time.is in
+    let part = fits_part fx c.requires.given.fits in (
+      omega arith,
+      (
+        omega arith,
+        (
+          c.requires.depth,
+          (
+            subst (λ (p : Part). FitsSchema (part_schema p) fx) is part.fits,
+            (c.requires.based, subst (λ (p : Part). AreChecked (part_wants p fx c.args.at) c.args.at c.args.pixels.now.pairs) is c.requires.pixels),
+          ),
+        ),
+      ),
+    )
+
+pub draw_analysis-requires : goal.draw_analysis-requires
+draw_analysis-requires g c =
+    let fx = use_of c.args.fx.now in
+    let is = sym c.part_of.ensures ∙ c.in-Analysis.is in
+    let part = fits_part fx c.requires.given.fits in (
+      omega arith,
+      (
+        omega arith,
+        (
+          c.requires.depth,
+          (
+            subst (λ (p : Part). FitsSchema (part_schema p) fx) is part.fits,
+            (
+              c.requires.based,
+              (
+                subst (λ (p : Part). AreChecked (part_wants p fx c.args.at) c.args.at c.args.pixels.now.pairs) is c.requires.pixels,
+                (c.requires.receipts, subst (λ (p : Part). AreSums g.row.MAX stock_sums (part_asks p fx c.args.at) (sums_in c.args.sums.now)) is c.requires.sums),
+              ),
             ),
           ),
         ),

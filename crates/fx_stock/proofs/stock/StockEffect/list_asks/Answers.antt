@@ -1,0 +1,12 @@
+use Rattle.std.proofs.Common.{subst, sym, ◌∙◌}
+use Rattle.project_model.specs.Effects.{use_of}
+use Rattle.effect_api.specs.Fits.{FitsSchema}
+use Rattle.fx_stock.specs.declared.part.Part.{Part}
+use Rattle.fx_stock.specs.Stock.{part_schema}
+use Rattle.fx_stock.specs.Laws.{fits_part}
+use Rattle.fx_stock.proofs.stock.StockEffect.list_asks.Goals as goal
+
+pub analysis_asks-requires-clause-fits : goal.analysis_asks-requires-clause-fits
+analysis_asks-requires-clause-fits c =
+    let fx = use_of c.args.fx.now in
+    subst (λ (p : Part). FitsSchema (part_schema p) fx) (sym c.part_of.ensures ∙ c.in-Analysis.is) (fits_part fx c.requires.given.fits).fits

@@ -1,0 +1,4 @@
+pub mod Spans
+pub mod Summed
+pub mod Answered
+pub mod Shares
