@@ -6,8 +6,8 @@ ghost use Rattle.std.specs.Prelude.{◌≡◌};
 ghost use Rattle.std.specs.declared.io.ErrorKind.TheVariants.{OutOfMemory};
 ghost use Rattle.host_run.specs.declared.arguments.ArgumentsError.TheVariants.{NotText, Memory};
 
-use fx_stock::{Stock, stock_is_steady};
-use host_io::{DiskClips, StdNotes, StdSink, StdSource};
+use fx_stock::Stock;
+use host_io::{FolderClips, NoGate, StdNotes, StdSink, StdSource};
 use host_run::{ArgumentsError, program};
 use std::env;
 use std::io::ErrorKind;
@@ -42,9 +42,9 @@ fn main(rt: HostRuntime) -> ExitCode {
     let mut out = StdSink::new(rt.stdout());
     let mut notes = StdNotes::new(rt.stderr());
     let alloc = rt.alloc();
-    let mut clips = DiskClips::new(rt);
-    stock_is_steady();
+    let mut clips = FolderClips::new(&rt);
     program(
+        &rt,
         alloc,
         arguments,
         &Stock,
@@ -52,5 +52,6 @@ fn main(rt: HostRuntime) -> ExitCode {
         &mut clips,
         &mut out,
         &mut notes,
+        &NoGate,
     )
 }

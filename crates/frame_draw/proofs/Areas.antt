@@ -14,7 +14,7 @@ use Rattle.comp_stack.specs.Layers.{IsPosition, plane_of}
 use Rattle.effect_api.specs.Planes.{HasSides}
 use Rattle.smart_plan.specs.Plan.{trimmed}
 use Rattle.smart_plan.proofs.Trimming.{Has-trimmed}
-use Rattle.frame_draw.specs.Areas.{IsArea, StandsFor, area_in}
+use Rattle.frame_draw.specs.Areas.{IsArea, IsPartOf, StandsFor, area_in}
 
 pub outside : (p : Picture) (x y : ℤ) → has p.part x y ≡ false → at p x y ≡ clear
 outside p x y e = ap (λ (b : Bool). if b then get_or p.pixels (place_of p.part x y) clear else clear) e
@@ -53,6 +53,34 @@ area_is w h request wide high = by (is_empty (meet_of (frame_rect w h) request))
           bottom_in = (omega (arith, ints, room.down, out.top), omega (arith, ints, out.bottom, high));
         }
 
+-- and of a picture of that size
+pub area_part : (w h : ℕ) (request : Rect) → IsPartOf w h (area_in (frame_rect w h) request)
+area_part w h request = by (is_empty (meet_of (frame_rect w h) request)) refl
+  where
+    none : IsPartOf w h origin
+    none = record {
+      left_in = omega (arith, ints);
+      across = omega (arith, ints);
+      right_in = omega (arith, ints);
+      top_in = omega (arith, ints);
+      down = omega (arith, ints);
+      bottom_in = omega (arith, ints);
+    }
+
+    by : (e : Bool) → is_empty (meet_of (frame_rect w h) request) ≡ e → IsPartOf w h (if e then origin else meet_of (frame_rect w h) request)
+    by true e = none
+    by false e =
+        let room = room_from_false (meet_of (frame_rect w h) request) e in
+        let out = outside_from_within (meet_of (frame_rect w h) request) (frame_rect w h) room (λ x y i. ((Has-meet_of (frame_rect w h) request x y).0 i).0) in
+        record {
+          left_in = out.left;
+          across = omega (arith, ints, room.across);
+          right_in = out.right;
+          top_in = out.top;
+          down = omega (arith, ints, room.down);
+          bottom_in = out.bottom;
+        }
+
 -- ---- worlds that stand for planes
 
 -- the plane itself
@@ -69,7 +97,7 @@ stands_ok request plane (Err e) is = tt
 pub stands_by : {E : Type 0} (request : Rect) (a b : Plane) (made : Result Picture E) → a ≡ b → IfOk made (StandsFor request a) → IfOk made (StandsFor request b)
 stands_by request a b made e is = subst (λ (p : Plane). IfOk made (StandsFor request p)) e is
 
-differ : ¬ (true ≡ false)
+pub differ : ¬ (true ≡ false)
 differ e = cc
 
 -- a picture that shows the plane where its frame is requested, and whose plane shows nothing outside that frame
@@ -122,6 +150,41 @@ part_ok (Ok q) world request area whole is extent part agrees =
     beyond : (x y : ℤ) → ¬ Has world.extent x y → (b : Bool) → has world.part x y ≡ b → at world x y ≡ clear
     beyond x y none true e = absurd (none (subst (λ (r : Rect). Has r x y) whole (Has-from_true world.part x y e)))
     beyond x y none false e = outside world x y e
+
+-- a picture of all of the extent, into which another one was copied
+pub copied_whole : (world whole : Picture) → IsWithin world.part world.extent → whole.part ≡ world.extent → AgreesOn whole.part world whole → (x y : ℤ) → at whole x y ≡ at world x y
+copied_whole world whole inside all copied x y = by (has whole.part x y) refl
+  where
+    off : (b : Bool) → has world.part x y ≡ b → has whole.part x y ≡ false → at world x y ≡ clear
+    off true e beyond = absurd (differ (sym (has-true whole.part x y (subst (λ (r : Rect). Has r x y) (sym all) (inside x y (Has-from_true world.part x y e)))) ∙ beyond))
+    off false e beyond = outside world x y e
+
+    by : (b : Bool) → has whole.part x y ≡ b → at whole x y ≡ at world x y
+    by true e = copied x y (Has-from_true whole.part x y e)
+    by false e = outside whole x y e ∙ sym (off (has world.part x y) refl e)
+
+-- a picture that stands for a plane everywhere, where the plane has pixels, is the plane
+pub everywhere_is : (request : Rect) (plane : Plane) (world whole : Picture) → StandsFor request plane world → IsWithin plane.extent request → ((x y : ℤ) → ¬ Has plane.extent x y → plane.at x y ≡ clear)
+    → IsWithin world.part world.extent → whole.extent ≡ world.extent → ((x y : ℤ) → at whole x y ≡ at world x y) → plane_of whole ≡ plane
+everywhere_is request plane world whole stands all beyond inside same points =
+    ap (λ (r : Rect). let p : Plane = record { extent = r; at = at whole } in p) (same ∙ stands.extent)
+    ∙ ap (λ (f : ℤ → ℤ → _). let p : Plane = record { extent = plane.extent; at = f } in p) (λ i x y. by x y (has plane.extent x y) refl i)
+  where
+    none : (x y : ℤ) → has plane.extent x y ≡ false → ¬ Has plane.extent x y
+    none x y e h = differ (sym (has-true plane.extent x y h) ∙ e)
+
+    off : (x y : ℤ) (b : Bool) → has world.part x y ≡ b → has plane.extent x y ≡ false → at world x y ≡ clear
+    off x y true e f = absurd (none x y f (subst (λ (r : Rect). Has r x y) stands.extent (inside x y (Has-from_true world.part x y e))))
+    off x y false e f = outside world x y e
+
+    by : (x y : ℤ) (b : Bool) → has plane.extent x y ≡ b → at whole x y ≡ plane.at x y
+    by x y true e = points x y ∙ stands.agrees x y (all x y (Has-from_true plane.extent x y e))
+    by x y false e = points x y ∙ off x y (has world.part x y) refl e ∙ sym (beyond x y (none x y e))
+
+pub whole_ok : {E : Type 0} (request : Rect) (plane : Plane) (world : Picture) (made : Result Picture E) → StandsFor request plane world → IsWithin plane.extent request → ((x y : ℤ) → ¬ Has plane.extent x y → plane.at x y ≡ clear)
+    → IsWithin world.part world.extent → IfOk made (λ whole. whole.extent ≡ world.extent) → IfOk made (λ whole. (x y : ℤ) → at whole x y ≡ at world x y) → IfOk made (λ whole. plane_of whole ≡ plane)
+whole_ok request plane world (Ok whole) stands all beyond inside same points = everywhere_is request plane world whole stands all beyond inside same points
+whole_ok request plane world (Err e) stands all beyond inside same points = tt
 
 -- ---- what an area shows of a picture that is put somewhere
 

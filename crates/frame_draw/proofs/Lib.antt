@@ -5,3 +5,6 @@ pub mod Frames
 pub mod Placing
 pub mod Rooted
 pub mod Wanted
+pub mod Sharing
+pub mod Behind
+pub mod Taken

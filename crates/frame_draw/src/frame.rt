@@ -1,39 +1,52 @@
-ghost use Rattle.std.specs.Prelude.{◌≡◌, ◌<◌, IfOk, Some};
+ghost use Rattle.std.specs.Prelude.{◌≡◌, ◌<◌, ◌∷◌, [], codes, IfOk, Some};
 ghost use Rattle.project_model.specs.Bounds.{most_of};
 ghost use Rattle.project_model.specs.Plain.{plain_of};
 ghost use Rattle.scene_meaning.specs.Output.{frame_count, root_of, frame_tick as meaning_tick};
 ghost use Rattle.project_model.specs.declared.plain.PlainComp.{PlainComp};
 ghost use Rattle.project_model.specs.Uses.{AreUses};
-ghost use Rattle.effect_api.specs.Sets.{IsSteady};
+ghost use Rattle.compute_cache.specs.Passes.{turns};
+ghost use Rattle.compute_cache.specs.Suite.{IsAsBefore, IsOf, job_of};
 ghost use Rattle.scene_meaning.specs.Shown.{base_in};
 ghost use Rattle.effect_api.specs.Fits.{IsHeld};
 ghost use Rattle.frame_draw.specs.Drawn.{IsFrame};
 
+use crate::context::Context;
 use crate::count::count_uses;
 use crate::draw::whole_comp;
 use crate::planes::Planes;
 use argb_world::World;
-use effect_api::Draw;
+use compute_cache::{Cache, Pass};
+use effect_api::{Draw, set_is_lawful};
 use host_io::Memory;
 use rational_time::{Tick, frame_tick, to_tick};
-use scene_meaning::{HasSet, Means, Scene, base_of, comp_at};
+use scene_meaning::{Means, Scene, SceneJob, base_of, comp_at};
 use std::alloc::Global;
+use std::sync::Wait;
 
 /// The picture of a frame of the scene's root, over the root's frame. The root has the frame, counted from 0, and `MAX` is the
-/// greatest value of a channel at the project's depth. The project's effects are of this set, and each of the set draws from planes
-/// at its own tick, and from no analysis.
-pub fn draw_frame<E: Draw<MAX>, const MAX: u32>(
+/// greatest value of a channel at the project's depth. The project's effects are of this set. The cache was started with the job of the
+/// scene and the effects, and with the class `plane` and then those of the set; planes at other ticks and sums are shared through it.
+/// The pass is of the cache and computes nothing. Afterwards it holds and computes what it did before, on `Memory` too.
+pub fn draw_frame<'a, R: Wait, E: Draw<MAX>, const MAX: u32>(
+    rt: &R,
     alloc: Global,
     scene: &Scene,
     effects: &E,
+    cache: &Cache<SceneJob<'a, E, MAX>>,
+    pass: &mut Pass<SceneJob<'a, E, MAX>>,
     frame: u32,
 ) -> Result<World<MAX>, Memory>
     requires depth { MAX ≡ most_of scene.now.project.depth }
     requires uses { AreUses E.schemas scene.now.project }
-    requires steady { IsSteady ⟦<E as HasSet>⟧.set }
     requires frame { frame < frame_count (plain_of scene.now.project) }
-    ensures { IfOk result (IsFrame (⟦<E as Means<MAX>>⟧.scene scene.now) frame) }
+    requires job { (job_of cache.now).scene.now ≡ scene.now }
+    requires classes { cache.now.classes ≡ codes "plane" ∷ E.class_names }
+    requires own { IsOf cache.now pass.old }
+    requires no_turn { turns pass.old ≡ [] }
+    ensures frame { IfOk result (IsFrame (⟦<E as Means<MAX>>⟧.scene scene.now) frame) }
+    ensures nothing_held { IsAsBefore pass.old pass.new }
 {
+    set_is_lawful::<E>();
     let root = scene.project().root;
     let tick = root_tick(scene, frame);
     let mut planes = Planes {
@@ -41,7 +54,14 @@ pub fn draw_frame<E: Draw<MAX>, const MAX: u32>(
         kept: Vec::new(alloc),
     };
     count_uses(scene, &mut planes.uses, root, tick)?;
-    whole_comp(alloc, scene, effects, &mut planes, root, tick)
+    let context = Context {
+        rt,
+        alloc,
+        scene,
+        effects,
+        cache,
+    };
+    whole_comp(&context, &mut planes, pass, root, tick)
 }
 
 // The tick at which a frame of the root begins.

@@ -1,5 +1,7 @@
 //! The planes of compositions that a frame uses more than once.
-ghost use Rattle.std.specs.Prelude.{◌≡◌, IfOk, IfSome};
+ghost use Rattle.std.specs.Prelude.{◌≡◌, ◌↔◌, ◌≤◌, ℤ, IfOk, IfSome, IsTrue};
+ghost use Rattle.geom_rect.specs.Rect.{IsWithin, area_of};
+ghost use Rattle.argb_world.specs.Picture.{at, greatest_part};
 ghost use Rattle.argb_pixel.specs.Depth.{IsDepth};
 ghost use Rattle.comp_stack.specs.Layers.{plane_of};
 ghost use Rattle.frame_draw.specs.Areas.{StandsFor};
@@ -84,4 +86,42 @@ pub(crate) fn part_of<const MAX: u32>(
     ensures { IfOk result (StandsFor request (plane_of world.now)) }
 {
     world.crop(alloc, area_in(&world.part(), &request))
+}
+
+/// The same picture with all of its extent as its part.
+pub(crate) fn whole_world<const MAX: u32>(
+    alloc: Global,
+    world: World<MAX>,
+) -> Result<World<MAX>, Memory>
+    requires few { area_of world.extent ≤ greatest_part }
+    ensures extent { IfOk result (λ whole. whole.extent ≡ world.entry.extent) }
+    ensures part { IfOk result (λ whole. whole.part ≡ world.entry.extent) }
+    ensures points { IfOk result (λ whole. (x y : ℤ) → at whole x y ≡ at world.entry x y) }
+    ensures inside { IsWithin world.entry.part world.entry.extent }
+{
+    let extent = world.extent();
+    if is_whole(&world) {
+        return Ok(world);
+    }
+    let mut whole = World::blank(alloc, extent, extent)?;
+    whole.copy_from(&world);
+    Ok(whole)
+}
+
+// Whether all of a picture's extent is its part.
+fn is_whole<const MAX: u32>(world: &World<MAX>) -> bool
+    ensures whole { IsTrue result ↔ (world.now.part ≡ world.now.extent) }
+    ensures inside { IsWithin world.now.part world.now.extent }
+{
+    same_sides(&world.part(), &world.extent())
+}
+
+// Whether two rectangles have the same sides.
+fn same_sides(rect: &Rect, other: &Rect) -> bool
+    ensures { IsTrue result ↔ (rect.now ≡ other.now) }
+{
+    rect.left == other.left
+        && rect.top == other.top
+        && rect.right == other.right
+        && rect.bottom == other.bottom
 }

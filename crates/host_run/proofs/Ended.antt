@@ -5,9 +5,10 @@ use Rattle.std.specs.Io.KnownBytes.{Consumes, Appends, Keeps, IsAtEnd}
 use Rattle.std.proofs.lemmas.Bool.Decides.{nat_tests}
 use borrow.Author.Tests.{ltb-true}
 use Rattle.std.proofs.lemmas.List.{append-nil}
-use Rattle.host_io.specs.Cause.{HasWriteCause}
-use Rattle.host_io.specs.declared.cause.SinkError.{SinkError}
-use Rattle.host_io.specs.declared.cause.SinkError.TheVariants as sink_error
+use Rattle.frame_span.specs.Rendered.{HasRenderCause}
+use Rattle.cache_core.specs.declared.entry.Entry.{Entry}
+use Rattle.frame_span.specs.declared.error.RenderError.{RenderError}
+use Rattle.frame_span.specs.declared.error.RenderError.TheVariants as render_error
 use Rattle.host_io.specs.declared.status.Status.{Status}
 use Rattle.host_io.specs.declared.status.Status.TheVariants as status
 use Rattle.project_model.specs.declared.effect.EffectSchema.{EffectSchema}
@@ -31,14 +32,14 @@ use Rattle.frame_file.specs.Clip.{Pictures}
 use Rattle.scene_meaning.specs.Output.{file, frame_count}
 use Rattle.scene_meaning.specs.Scene.{SceneParts}
 use Rattle.scene_meaning.specs.Shown.{PlainScene}
-use Rattle.host_run.specs.Effects.{Effects, scene_with, scene_of}
+use Rattle.frame_span.specs.Effects.{Effects, scene_with, scene_of}
 use Rattle.host_run.specs.Found.{Found, IsFoundIn, Refusal, missing, refused, clips_from}
 use Rattle.host_run.specs.Outcome.{Outcome, words_refused, project_too_long, project_refused, clip_refused, span_refused, accepted, outcome, outcome_of_reading, outcome_of_clips, outcome_of_span, last_asked, end_of, output, IsAccepted, is_read_on}
 use Rattle.host_run.specs.Run.{Seen, SeenStore, WorksWell, Fails, IsQuiet, IsNoted, HasEnded, HasRun, calls_of}
 use Rattle.host_run.specs.Stages.{IsWhole, HasRead, Reads, HasLoaded, Loads, HasSpan}
 use Rattle.host_run.specs.Headline.{IsRendered, Answers, IsAnswer, IsAnswered}
-use Rattle.host_run.specs.Ending.{status_of, status_of_end, ending_of_words, ending_of_project, ending_of_writing}
-use Rattle.host_run.specs.Written.{AppendsFront}
+use Rattle.host_run.specs.Ending.{status_of, status_of_end, ending_of_words, ending_of_project, ending_of_rendering}
+use Rattle.frame_span.specs.Written.{AppendsFront}
 use Rattle.host_run.specs.declared.input.TheConstants.{LONGEST_TEXT}
 use Rattle.host_run.specs.declared.settings.Settings.{Settings}
 use Rattle.host_run.specs.declared.span.Span.{Span}
@@ -46,7 +47,8 @@ use Rattle.host_run.specs.declared.words.WordsError.{WordsError}
 use Rattle.host_run.specs.declared.words.WordsError.TheVariants as words_error
 use Rattle.host_run.specs.declared.notes.Ending.{Ending}
 use Rattle.host_run.specs.declared.notes.Ending.TheVariants as ending
-use Rattle.host_run.proofs.Known.{appends_none, longer}
+use Rattle.frame_span.proofs.Known.{appends_none}
+use Rattle.host_run.proofs.Known.{longer}
 use Rattle.host_run.proofs.Loaded.{any_found}
 
 -- nothing was taken
@@ -349,11 +351,11 @@ module _ (effects : Effects) where
         written = subst (Appends sink.before sink.now) (sym (ap output o)) whole;
       }
 
-  pub ended_at_writing : (settings : Settings) (p : Project) (scene : SceneParts) (span : Span) (e : SinkError) (source : Seen) (store : SeenStore) (sink : Seen)
+  pub ended_at_writing : (settings : Settings) (p : Project) (scene : SceneParts) (span : Span) (e : RenderError) (source : Seen) (store : SeenStore) (sink : Seen)
       → HasRead effects.set.schemas (Ok p) source → HasLoaded p (Ok scene) store → HasSpan settings (scene_of effects scene) (Ok span) → store.clips_now ≡ store.clips
       → AppendsFront sink.before sink.now (file (scene_of effects scene) span.from span.to)
-      → HasWriteCause {T = Unit {0}} sink.faults_before sink.faults_now (Err e) → HasEnded effects (Some settings) (Err (ending_of_writing e)) source store sink
-  ended_at_writing settings p scene span sink_error.Failed source store sink h k asked kept front cause =
+      → HasRenderCause {T = List Entry} sink.faults_before sink.faults_now (Err e) → HasEnded effects (Some settings) (Err (ending_of_rendering e)) source store sink
+  ended_at_writing settings p scene span render_error.WriteFault source store sink h k asked kept front cause =
       let o : outcome effects (Some settings) h.bytes k.found ≡ accepted (scene_of effects scene) span.from span.to = accepted_here settings p scene span source store h k asked in
       record {
         bytes = h.bytes;
@@ -365,7 +367,7 @@ module _ (effects : Effects) where
         left = h.reads.0.ended;
         written = (h.reads.0.ended, subst (AppendsFront sink.before sink.now) (sym (ap output o)) front);
       }
-  ended_at_writing settings p scene span sink_error.Memory source store sink h k asked kept front cause =
+  ended_at_writing settings p scene span render_error.Memory source store sink h k asked kept front cause =
       let o : outcome effects (Some settings) h.bytes k.found ≡ accepted (scene_of effects scene) span.from span.to = accepted_here settings p scene span source store h k asked in
       record {
         bytes = h.bytes;

@@ -3,8 +3,8 @@ use Rattle.std.specs.Prelude.{Result, Ok, Err, List, [], ◌∷◌, ◌++◌, co
 use Rattle.std.specs.Option.{option_map_or}
 use Rattle.host_io.specs.declared.status.Status.{Status}
 use Rattle.host_io.specs.declared.status.Status.TheVariants as status
-use Rattle.host_io.specs.declared.cause.SinkError.{SinkError}
-use Rattle.host_io.specs.declared.cause.SinkError.TheVariants as sink
+use Rattle.frame_span.specs.declared.error.RenderError.{RenderError}
+use Rattle.frame_span.specs.declared.error.RenderError.TheVariants as render
 use Rattle.project_json.specs.declared.error.ProjectError.{ProjectError}
 use Rattle.project_json.specs.declared.error.ProjectError.TheVariants as project
 use Rattle.frame_file.specs.declared.error.ClipError.{ClipError}
@@ -39,7 +39,7 @@ abbrev pub ending_of_arguments : ArgumentsError → Ending
 ending_of_arguments arguments.NotText = Words
 ending_of_arguments arguments.Memory = Memory
 
--- how a run ends after words, a read, a reading or a write that did not succeed
+-- how a run ends after words, a read, a reading or a render that did not succeed
 abbrev pub ending_of_words : WordsError → Ending
 ending_of_words words.Refused = Words
 ending_of_words words.Memory = Memory
@@ -54,9 +54,9 @@ ending_of_project project.NotJson = NotJson
 ending_of_project (project.Rule number comp layer) = Rule number
 ending_of_project project.Memory = Memory
 
-abbrev pub ending_of_writing : SinkError → Ending
-ending_of_writing sink.Failed = WriteFault
-ending_of_writing sink.Memory = Memory
+abbrev pub ending_of_rendering : RenderError → Ending
+ending_of_rendering render.WriteFault = WriteFault
+ending_of_rendering render.Memory = Memory
 
 -- the name of the clip of an index, empty where there is none
 abbrev pub name_at : List ClipUse → ℕ → List ℕ

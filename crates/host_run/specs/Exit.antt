@@ -3,7 +3,7 @@ use Rattle.std.specs.Prelude.{◌≡◌, ℕ, Option, Err}
 use Rattle.std.specs.Io.KnownBytes.{Keeps}
 use Rattle.host_io.specs.Status.{number_of}
 use Rattle.host_io.specs.declared.status.Status.{Status}
-use Rattle.host_run.specs.Effects.{Effects}
+use Rattle.frame_span.specs.Effects.{Effects}
 use Rattle.host_run.specs.Run.{Seen, SeenStore, WorksWell, IsNoted, HasRun, calls_of}
 use Rattle.host_run.specs.declared.notes.Ending.{Ending}
 use Rattle.host_run.specs.declared.settings.Settings.{Settings}

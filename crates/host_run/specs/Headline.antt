@@ -4,7 +4,7 @@ use Rattle.std.specs.Io.KnownBytes.{Consumes, IsAtEnd, Appends}
 use Rattle.host_io.specs.declared.status.Status.{Status}
 use Rattle.host_io.specs.declared.status.Status.TheVariants as status
 use Rattle.host_run.specs.Ending.{status_of_end}
-use Rattle.host_run.specs.Effects.{Effects}
+use Rattle.frame_span.specs.Effects.{Effects}
 use Rattle.host_run.specs.Found.{Found, IsFoundIn}
 use Rattle.host_run.specs.Outcome.{Outcome, accepted, outcome, end_of, IsAccepted}
 use Rattle.scene_meaning.specs.Shown.{PlainScene}

@@ -1,4 +1,3 @@
-pub mod Effects
 pub mod Ending
 pub mod Exit
 pub mod Found
@@ -9,4 +8,3 @@ pub mod Outcome
 pub mod Run
 pub mod Stages
 pub mod Words
-pub mod Written

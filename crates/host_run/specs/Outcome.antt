@@ -5,7 +5,7 @@ use Rattle.project_json.specs.declared.error.ProjectError.{ProjectError}
 use Rattle.project_json.specs.declared.error.ProjectError.TheVariants as project
 use Rattle.project_json.specs.Reading.{project_of}
 use Rattle.frame_file.specs.Clip.{Pictures}
-use Rattle.host_run.specs.Effects.{Effects, scene_with}
+use Rattle.frame_span.specs.Effects.{Effects, scene_with}
 use Rattle.host_run.specs.declared.input.TheConstants.{LONGEST_TEXT}
 use Rattle.scene_meaning.specs.Shown.{PlainScene}
 use Rattle.scene_meaning.specs.Output.{file, frame_count}

@@ -7,11 +7,11 @@ use Rattle.host_io.specs.declared.status.Status.TheVariants as status
 use Rattle.host_io.specs.Clips.{ClipMap}
 use Rattle.project_model.specs.declared.plain.PlainProject.{PlainProject}
 use Rattle.project_json.specs.Reading.{project_of}
-use Rattle.host_run.specs.Effects.{Effects}
+use Rattle.frame_span.specs.Effects.{Effects}
 use Rattle.host_run.specs.Ending.{status_of_end, note_of_end}
 use Rattle.host_run.specs.Found.{Found, IsFoundIn, IsReached}
 use Rattle.host_run.specs.Outcome.{Outcome, outcome, end_of, output, IsAccepted, is_read_on}
-use Rattle.host_run.specs.Written.{AppendsFront}
+use Rattle.frame_span.specs.Written.{AppendsFront}
 use Rattle.host_run.specs.declared.settings.Settings.{Settings}
 use Rattle.host_run.specs.declared.notes.Ending.{Ending}
 use Rattle.host_run.specs.declared.notes.Ending.TheVariants.{Words, ClipFault, ReadFault, WriteFault, Memory, ProjectTooLong}

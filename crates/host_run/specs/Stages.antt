@@ -9,7 +9,6 @@ use Rattle.project_model.specs.Uses.{AreUses}
 use Rattle.project_model.specs.declared.effect.EffectSchema.{EffectSchema}
 use Rattle.project_json.specs.Reading.{project_of}
 use Rattle.project_json.specs.declared.error.ProjectError.TheVariants as project
-use Rattle.scene_meaning.specs.Output.{frame_count}
 use Rattle.host_run.specs.Outcome.{accepted, span_refused, outcome_of_span, last_asked}
 use Rattle.scene_meaning.specs.Scene.{SceneParts}
 use Rattle.scene_meaning.specs.Shown.{PlainScene}
@@ -78,8 +77,3 @@ HasSpan settings scene (Ok span) =
 HasSpan settings scene (Err (ending.Span from to count)) =
     outcome_of_span scene settings.from (last_asked settings scene.project) ≡ span_refused from to count
 HasSpan settings scene (Err other) = ⊥
-
--- the span lies in the root
-pub record InRoot (p : PlainProject) (span : Span) : Type 0 where
-  pub order : span.from ≤ span.to
-  pub end : span.to < frame_count p

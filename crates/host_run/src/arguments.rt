@@ -1,20 +1,20 @@
 ghost use Rattle.std.specs.Prelude.{◌≡◌, drop, map, string_bytes, IfOk, IfErr, IsOkAnd};
 ghost use Rattle.std.specs.Process.{exit_status};
-ghost use Rattle.effect_api.specs.Sets.{IsSteady};
 ghost use Rattle.host_run.specs.Ending.{ending_of_arguments};
 ghost use Rattle.host_run.specs.Exit.{HasExited, HasRefused};
 ghost use Rattle.host_run.specs.Headline.{IsRendered};
 ghost use Rattle.host_run.specs.Words.{words_of};
 ghost use Rattle.host_run.specs.Run.{seen_of, seen_store};
 
-use crate::effects::HasEffects;
 use crate::host::run;
 use crate::notes::{Ending, note};
 use effect_api::Draw;
-use host_io::{ClipStore, Sink, Source, Status};
-use scene_meaning::HasSet;
+use frame_span::HasEffects;
+use host_io::{ClipStore, Gate, Sink, Source, Status};
 use std::alloc::Global;
 use std::process::ExitCode;
+use std::sync::Wait;
+use std::thread::Threads;
 
 /// Why a program has no arguments.
 #[derive(Clone, Copy, Debug, Drop, PartialEq, Eq)]
@@ -26,7 +26,16 @@ pub enum ArgumentsError {
 
 /// Runs with the words behind the first argument, which is the program's name, and answers the code that the process ends with:
 /// the number of the status. Arguments that are not text are refused words.
-pub fn program<E: Draw<255> + Draw<32768>, S: Source, C: ClipStore, K: Sink, N: Sink>(
+pub fn program<
+    R: Threads + Wait + Sync,
+    E: Draw<255> + Draw<32768> + Sync,
+    S: Source,
+    C: ClipStore,
+    K: Sink,
+    N: Sink,
+    G: Gate,
+>(
+    rt: &R,
     alloc: Global,
     arguments: Result<Vec<String>, ArgumentsError>,
     effects: &E,
@@ -34,8 +43,8 @@ pub fn program<E: Draw<255> + Draw<32768>, S: Source, C: ClipStore, K: Sink, N: 
     clips: &mut C,
     out: &mut K,
     notes: &mut N,
+    gate: &G,
 ) -> ExitCode
-    requires { IsSteady ⟦<E as HasSet>⟧.set }
 
     // With the code 0 the bytes written are the file of the span of the project that the bytes left were read as, with its clips.
     ensures headline { exit_status result ≡ 0 → IsOkAnd arguments (λ a. IsRendered ⟦<E as HasEffects>⟧.effects (words_of (map string_bytes (drop 1 a.items)))
@@ -57,6 +66,7 @@ pub fn program<E: Draw<255> + Draw<32768>, S: Source, C: ClipStore, K: Sink, N: 
 {
     let status = match arguments {
         Ok(arguments) => run(
+            rt,
             alloc,
             &after_the_name(arguments),
             effects,
@@ -64,6 +74,7 @@ pub fn program<E: Draw<255> + Draw<32768>, S: Source, C: ClipStore, K: Sink, N: 
             clips,
             out,
             notes,
+            gate,
         ),
         Err(error) => note(alloc, Ending::of_arguments(error), notes),
     };

@@ -1,29 +1,27 @@
 ghost use Rattle.std.specs.Prelude.{◌≡◌, map, string_bytes, IfOk};
 ghost use Rattle.project_model.specs.Plain.{plain_of};
 ghost use Rattle.project_model.specs.Effects.{AreSchemas};
-ghost use Rattle.effect_api.specs.Sets.{IsSteady};
-ghost use Rattle.host_run.specs.Effects.{Effects, scene_of};
 ghost use Rattle.host_run.specs.Headline.{IsRendered, IsAnswered};
 ghost use Rattle.host_run.specs.Run.{HasEnded, HasRun, seen_of, seen_store};
-ghost use Rattle.host_run.specs.Stages.{HasRead, HasSpan, InRoot};
+ghost use Rattle.host_run.specs.Stages.{HasRead};
 ghost use Rattle.host_run.specs.Words.{words_of};
 
 use crate::clips::read_clips;
-use crate::effects::HasEffects;
 use crate::input::{ReadError, read_to_end};
 use crate::notes::{Ending, note};
-use crate::settings::Settings;
-use crate::span::{Span, root_of, write_span};
+use crate::span::{Span, span_of};
 use crate::words::{WordsError, read_words};
 use effect_api::Draw;
-use host_io::{ClipStore, Sink, SinkError, Source, Status};
+use frame_span::{HasEffects, RenderError, render_span};
+use host_io::{ClipStore, Gate, Sink, Source, Status};
 use project_json::{ProjectError, read_project};
 use project_model::{EffectSchema, Project};
-use scene_meaning::{HasSet, Scene};
 use std::alloc::Global;
+use std::sync::Wait;
+use std::thread::Threads;
 
 impl Ending {
-    ghost use Rattle.host_run.specs.Ending.{ending_of_words, ending_of_reading, ending_of_project, ending_of_writing};
+    ghost use Rattle.host_run.specs.Ending.{ending_of_words, ending_of_reading, ending_of_project, ending_of_rendering};
 
     fn of_words(error: WordsError) -> Ending
         ensures { result ≡ ending_of_words error }
@@ -54,12 +52,12 @@ impl Ending {
         }
     }
 
-    fn of_writing(error: SinkError) -> Ending
-        ensures { result ≡ ending_of_writing error }
+    fn of_rendering(error: RenderError) -> Ending
+        ensures { result ≡ ending_of_rendering error }
     {
         match error {
-            SinkError::Failed => Ending::WriteFault,
-            SinkError::Memory => Ending::Memory,
+            RenderError::WriteFault => Ending::WriteFault,
+            RenderError::Memory => Ending::Memory,
         }
     }
 }
@@ -83,31 +81,24 @@ fn read_input<S: Source>(
     }
 }
 
-/// The span that is asked for, where it lies in the root.
-fn span_of(settings: &Settings, scene: &Scene) -> Result<Span, Ending>
-    ensures asked { (effects : Effects) → HasSpan settings.now (scene_of effects scene.now) result }
-    ensures inside { IfOk result (InRoot (plain_of scene.now.project)) }
-{
-    let count = root_of(scene).frames;
-    let from = settings.from;
-    let to = settings.to.unwrap_or(count.saturating_sub(1));
-    if from <= to && to < count {
-        Ok(Span { from, to })
-    } else {
-        Err(Ending::Span(from, to, count))
-    }
-}
-
 /// Renders a project, or says why not.
-fn render<E: Draw<255> + Draw<32768>, S: Source, C: ClipStore, K: Sink>(
+fn render<
+    R: Threads + Wait + Sync,
+    E: Draw<255> + Draw<32768> + Sync,
+    S: Source,
+    C: ClipStore,
+    K: Sink,
+    G: Gate,
+>(
+    rt: &R,
     alloc: Global,
     words: &[String],
     effects: &E,
     source: &mut S,
     clips: &mut C,
     out: &mut K,
+    gate: &G,
 ) -> Result<(), Ending>
-    requires { IsSteady ⟦<E as HasSet>⟧.set }
     ensures { HasEnded ⟦<E as HasEffects>⟧.effects (words_of (map string_bytes words.now)) result
         (seen_of S.left S.faults source.old source.new) (seen_store C.clips C.faults clips.old clips.new)
         (seen_of K.written K.faults out.old out.new) }
@@ -132,16 +123,26 @@ fn render<E: Draw<255> + Draw<32768>, S: Source, C: ClipStore, K: Sink>(
         Ok(span) => span,
         Err(ending) => return Err(ending),
     };
-    match write_span(alloc, &scene, effects, span, out) {
-        Ok(()) => Ok(()),
-        Err(error) => Err(Ending::of_writing(error)),
+    match render_span(
+        rt,
+        alloc,
+        &scene,
+        effects,
+        span.from,
+        span.to,
+        settings.workers,
+        settings.budget,
+        out,
+        gate,
+    ) {
+        Ok(_) => Ok(()),
+        Err(error) => Err(Ending::of_rendering(error)),
     }
 }
 
-/// Renders a project with the effects of a set, each of which draws from planes at its own tick and from no analysis: reads its JSON
-/// from `project` to the end and the clips that it declares from `clips`, in order, draws the
-/// frames of its root composition that the words ask for and writes them to `out` as an AFR file. Where it cannot, it writes a
-/// line to `notes`.
+/// Renders a project with the effects of a set: reads its JSON from `project` to the end and the clips that it declares from `clips`,
+/// in order, draws the frames of its root composition that the words ask for and writes them to `out` as an AFR file. Where it cannot,
+/// it writes a line to `notes`. Planes at other ticks and sums are shared by a cache of as many bytes as the words give it.
 ///
 /// - `Words`: the words are no settings (see [`crate::read_words`]); nothing is read.
 /// - `ReadFault`: the source failed.
@@ -153,7 +154,16 @@ fn render<E: Draw<255> + Draw<32768>, S: Source, C: ClipStore, K: Sink>(
 /// - `Span`: the first frame that is asked for is behind the last, or the last is not in the root.
 /// - `WriteFault`: the sink failed; a prefix of the file is written.
 /// - `Memory`: memory ran out; a prefix of the file may be written.
-pub fn run<E: Draw<255> + Draw<32768>, S: Source, C: ClipStore, K: Sink, N: Sink>(
+pub fn run<
+    R: Threads + Wait + Sync,
+    E: Draw<255> + Draw<32768> + Sync,
+    S: Source,
+    C: ClipStore,
+    K: Sink,
+    N: Sink,
+    G: Gate,
+>(
+    rt: &R,
     alloc: Global,
     words: &[String],
     effects: &E,
@@ -161,9 +171,8 @@ pub fn run<E: Draw<255> + Draw<32768>, S: Source, C: ClipStore, K: Sink, N: Sink
     clips: &mut C,
     out: &mut K,
     notes: &mut N,
+    gate: &G,
 ) -> Status
-    requires { IsSteady ⟦<E as HasSet>⟧.set }
-
     // On Ok the bytes written are the file of the span of the project that the bytes left were read as, with its clips.
     ensures headline { result ≡ Status.Ok → IsRendered ⟦<E as HasEffects>⟧.effects (words_of (map string_bytes words.now))
         (seen_of S.left S.faults project.old project.new) (seen_store C.clips C.faults clips.old clips.new)
@@ -183,7 +192,7 @@ pub fn run<E: Draw<255> + Draw<32768>, S: Source, C: ClipStore, K: Sink, N: Sink
     // The store holds what it held.
     ensures kept { C.clips clips.new ≡ C.clips clips.old }
 {
-    match render(alloc, words, effects, project, clips, out) {
+    match render(rt, alloc, words, effects, project, clips, out, gate) {
         Ok(()) => Status::Ok,
         Err(ending) => note(alloc, ending, notes),
     }

@@ -3,21 +3,19 @@
 
 mod arguments;
 mod clips;
-mod effects;
 mod host;
 mod input;
 mod laws;
 mod notes;
-mod output;
 mod settings;
 mod span;
 mod words;
 
 pub use arguments::{ArgumentsError, program};
-pub use effects::HasEffects;
+pub use frame_span::HasEffects;
 pub use host::run;
 pub use laws::numbers_of_a_run;
 pub use settings::{
-    DEFAULT_BUDGET, DEFAULT_NUMBER, DEFAULT_WORKERS, LAST_FRAME, RunMode, Settings,
+    DEFAULT_BUDGET, DEFAULT_NUMBER, DEFAULT_WORKERS, LAST_FRAME, MOST_BUDGET, RunMode, Settings,
 };
 pub use words::{WordsError, read_words};

@@ -4,10 +4,10 @@ ghost use Rattle.std.specs.Io.KnownBytes.{Appends};
 ghost use Rattle.host_io.specs.Cause.{HasWriteCause};
 ghost use Rattle.host_run.specs.Ending.{status_of, note_of, line_of, reason_of, reason_of_clip, why_of, field_name};
 ghost use Rattle.host_run.specs.Run.{IsNoted, seen_of};
-ghost use Rattle.host_run.specs.Written.{AppendsFront};
+ghost use Rattle.frame_span.specs.Written.{AppendsFront};
 
-use crate::output::write_whole;
 use frame_file::ClipError;
+use frame_span::write_whole;
 use host_io::{Sink, SinkError, Status};
 use project_model::Text;
 use std::alloc::{AllocError, Global};

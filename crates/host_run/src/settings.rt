@@ -7,6 +7,9 @@ pub const DEFAULT_WORKERS: u32 = 4;
 /// The bytes that cached values may take where the words say none.
 pub const DEFAULT_BUDGET: u64 = 536_870_912;
 
+/// The most bytes that cached values may be given.
+pub const MOST_BUDGET: u64 = 1_099_511_627_776;
+
 /// The number of a generated project where the words say none.
 pub const DEFAULT_NUMBER: u32 = 1;
 

@@ -1,5 +1,5 @@
 //! How much of an effect is drawn for what a frame shows.
-ghost use Rattle.std.specs.Prelude.{◌≡◌, ◌<◌, IfOk, OnOk};
+ghost use Rattle.std.specs.Prelude.{◌≡◌, ◌<◌, ◌≤◌, length, IfOk, OnOk};
 ghost use Rattle.std.specs.List.{All};
 ghost use Rattle.argb_pixel.specs.Depth.{IsDepth};
 ghost use Rattle.argb_world.specs.Picture.{SameExtentAndPart};
@@ -10,36 +10,65 @@ ghost use Rattle.effect_api.specs.Planes.{HasSides};
 ghost use Rattle.effect_api.specs.Render.{AreExtents, IsResult, AreCheckouts};
 ghost use Rattle.effect_api.specs.Checked.{IsPlaneValue, IsSumsValue, value_world, planes_of, sums_in, AreChecked, AreSums};
 ghost use Rattle.effect_api.specs.Effects.{Shows};
-ghost use Rattle.effect_api.specs.Own.{no_classes};
-ghost use Rattle.effect_api.specs.Laws.{no_classes_are, no_sums_few};
-ghost use Rattle.fx_stock.specs.Stock.{stock_schemas, stock_sums, part_of, part_wants, part_asks, part_bounds, part_need, part_draws};
-ghost use Rattle.fx_stock.specs.Laws.{stock_schemas_are, fits_part, stock_wants_are, stock_asks_are, part_bounds_are, part_draws_are, part_draws_locally};
+ghost use Rattle.fx_stock.specs.Stock.{stock_schemas, stock_class_names, stock_sums, part_of, part_wants, part_asks, part_bounds, part_need, part_draws};
+ghost use Rattle.fx_stock.specs.Laws.{stock_schemas_are, stock_class_names_are, fits_part, stock_wants_are, stock_asks_are, part_bounds_are, part_draws_are, part_draws_locally, stock_sums_few};
 
 use argb_world::World;
 use compute_cache::{Keeps, Receipt, Turn};
 use effect_api::{Ask, Checkouts, Draw, Effect, Moment, PreRender, Value, Want};
-use fx_stock::{Stock, stock_is_steady};
+use fx_stock::Stock;
 use geom_rect::Rect;
-use host_io::{Memory, NeverClips, NeverSink, NeverSource, Status};
+use host_io::{Memory, NeverClips, NeverSink, NeverSource, NoGate, Status};
 use host_run::run;
 use project_model::{EffectSchema, FxUse};
 use sequence_data::{Sequence, SequenceError};
 use std::alloc::Global;
-use std::cell::Cell;
 use std::collections::BTreeMap;
+use std::hint;
 use std::process::Abort;
+use std::sync::atomic::{AtomicU64, Ordering};
 use std::test::Fail;
 
-/// The stock set, which adds up the areas of the parts that it draws.
+/// The stock set, which adds up the areas of the parts that it draws, and counts its analyses. While it draws it looks so often for
+/// another drawing, and counts those that saw one.
 #[derive(Drop)]
-struct Counting {
-    area: Cell<u64>,
+pub(crate) struct Counting {
+    pub(crate) looks: u32,
+    pub(crate) area: AtomicU64,
+    pub(crate) analyses: AtomicU64,
+    pub(crate) drawings: AtomicU64,
+    pub(crate) met: AtomicU64,
+}
+
+impl Counting {
+    /// Nothing is counted yet.
+    pub(crate) fn new(looks: u32) -> Counting {
+        Counting {
+            looks,
+            area: AtomicU64::new(0),
+            analyses: AtomicU64::new(0),
+            drawings: AtomicU64::new(0),
+            met: AtomicU64::new(0),
+        }
+    }
+
+    // One drawing more, which looks for another.
+    fn meet(&self) {
+        self.drawings.fetch_add(1, Ordering::SeqCst);
+        for _ in 0..self.looks {
+            if self.drawings.load(Ordering::SeqCst) > 1 {
+                self.met.fetch_add(1, Ordering::SeqCst);
+                return;
+            }
+            hint::spin_loop();
+        }
+    }
 }
 
 impl Effect for Counting {
     ghost schemas = { stock_schemas };
 
-    ghost class_names = { no_classes };
+    ghost class_names = { stock_class_names };
 
     ghost wants = { λ fx at. part_wants (part_of fx.kind) fx at };
 
@@ -87,7 +116,7 @@ impl Effect for Counting {
 
     ghost schemas_are = { stock_schemas_are };
 
-    ghost class_names_are = { no_classes_are };
+    ghost class_names_are = { stock_class_names_are };
 
     ghost wants_are = { λ fx at given. stock_wants_are fx at given };
 
@@ -121,8 +150,8 @@ impl<const MAX: u32> Draw<MAX> for Counting {
         ensures drawn { OnOk result (Shows target.old.part
             (part_draws MAX (part_of fx.now.kind) (use_of fx.now) at (planes_of pixels.now.pairs) (sums_in sums.now)) target.new) }
     {
-        self.area
-            .set(self.area.get().saturating_add(target.part().area()));
+        self.meet();
+        self.area.fetch_add(target.part().area(), Ordering::SeqCst);
         Stock.smart_render(alloc, fx, at, pixels, sums, target)
     }
 
@@ -135,12 +164,15 @@ impl<const MAX: u32> Draw<MAX> for Counting {
         plane: &Receipt<K>,
     ) -> Result<Vec<u64>, Memory>
         requires depth { IsDepth MAX }
+        requires class_low { 1 ≤ class }
+        requires class_high { class ≤ length stock_class_names }
         requires turn_is { turn.now.class ≡ class }
         requires ask { ask < 16777216 }
         requires plane { IsPlaneValue plane.now.value }
         requires whole { (value_world plane.now.value).part ≡ (value_world plane.now.value).extent }
         ensures { IfOk result (λ list. list.items ≡ stock_sums class ask (plane_of (value_world plane.now.value))) }
     {
+        self.analyses.fetch_add(1, Ordering::SeqCst);
         Stock.analyse(alloc, turn, class, ask, plane)
     }
 
@@ -148,7 +180,7 @@ impl<const MAX: u32> Draw<MAX> for Counting {
 
     ghost draws_locally = { λ fx at extents given. part_draws_locally MAX (part_of fx.kind) fx at extents (fits_part fx given.fits) };
 
-    ghost sums_are_few = { λ class ask plane. no_sums_few class ask plane };
+    ghost sums_are_few = { λ class ask plane. stock_sums_few class ask plane };
 }
 
 #[test]
@@ -156,13 +188,13 @@ fn a_frame_draws_what_it_shows(rt: HostRuntime) -> Result<(), Fail> {
     let alloc = rt.alloc();
     let text =
         "{\"version\":1,\"depth\":8,\"root\":0,\"comps\":[{\"width\":2,\"height\":1,\"frame\":[1,24],\"frames\":1,\"layers\":[{\"source\":{\"solid\":[100,100,255,0,0,0]},\"effects\":[{\"effect\":\"Invert\",\"params\":[0]},{\"effect\":\"BoxBlur\",\"params\":[2]}]}]}]}";
-    let effects = Counting { area: Cell::new(0) };
+    let effects = Counting::new(0);
     let mut project = NeverSource::new(text.as_bytes().to_vec(alloc)?, 1000);
     let mut clips = NeverClips::new(BTreeMap::new(alloc));
     let mut out = NeverSink::new(alloc, 1000);
     let mut notes = NeverSink::new(alloc, 1000);
-    stock_is_steady();
     let status = run(
+        &rt,
         alloc,
         &[],
         &effects,
@@ -170,8 +202,9 @@ fn a_frame_draws_what_it_shows(rt: HostRuntime) -> Result<(), Fail> {
         &mut clips,
         &mut out,
         &mut notes,
+        &NoGate,
     );
     assert_eq!(rt; status, Status::Ok);
-    assert_eq!(rt; effects.area.get(), 14);
+    assert_eq!(rt; effects.area.load(Ordering::SeqCst), 14);
     Ok(())
 }

@@ -1,13 +1,15 @@
 //! Clips in whole runs, worked by hand.
 
 use crate::runs::words_of;
-use fx_stock::{Stock, stock_is_steady};
-use host_io::{MemClips, NeverSink, NeverSource, Status};
+use fx_stock::Stock;
+use host_io::{MemClips, NeverSink, NeverSource, NoGate, Status};
 use host_run::run;
 use std::alloc::{AllocError, Global};
 use std::collections::BTreeMap;
 use std::process::Abort;
+use std::sync::Wait;
 use std::test::Fail;
+use std::thread::Threads;
 
 /// What a run over a store ended with, and what it wrote behind a header.
 #[derive(Drop)]
@@ -54,6 +56,7 @@ pub(crate) fn files_of(
 
 /// Runs over a store of these clips that fails at some of its calls.
 pub(crate) fn run_with(
+    rt: &(impl Threads + Wait + Sync),
     alloc: Global,
     words: &str,
     text: &str,
@@ -65,8 +68,8 @@ pub(crate) fn run_with(
     let mut clips = MemClips::new(clips, fails.to_vec(alloc)?);
     let mut out = NeverSink::new(alloc, 1000);
     let mut notes = NeverSink::new(alloc, 1000);
-    stock_is_steady();
     let status = run(
+        rt,
         alloc,
         &words,
         &Stock,
@@ -74,6 +77,7 @@ pub(crate) fn run_with(
         &mut clips,
         &mut out,
         &mut notes,
+        &NoGate,
     );
     Ok(Ran {
         status,
@@ -83,9 +87,14 @@ pub(crate) fn run_with(
 }
 
 /// Runs end so, with no file.
-fn ends(rt: &impl Abort, alloc: Global, text: &str, rows: &[Ending]) -> Result<(), Fail> {
+fn ends(
+    rt: &(impl Abort + Threads + Wait + Sync),
+    alloc: Global,
+    text: &str,
+    rows: &[Ending],
+) -> Result<(), Fail> {
     for (words, files, fails, status, line) in rows {
-        let ran = run_with(alloc, *words, text, files_of(alloc, *files)?, *fails)?;
+        let ran = run_with(rt, alloc, *words, text, files_of(alloc, *files)?, *fails)?;
         assert_eq!(rt; ran.status, *status, "{line}");
         assert_eq!(rt; ran.note.as_slice(), line.as_bytes());
         assert_eq!(rt; ran.pixels.len(), 0, "{line}");
@@ -253,14 +262,14 @@ fn clips_come_in_order(rt: HostRuntime) -> Result<(), Fail> {
 fn clips_that_are_read_are_drawn(rt: HostRuntime) -> Result<(), Fail> {
     let alloc = rt.alloc();
     // No call fails up to the last one.
-    let ran = run_with(alloc, "", ONE_CLIP, files_of(alloc, &[A])?, &[2])?;
+    let ran = run_with(&rt, alloc, "", ONE_CLIP, files_of(alloc, &[A])?, &[2])?;
     assert_eq!(rt; ran.status, Status::Ok);
     assert_eq!(rt; ran.note.len(), 0);
     assert_eq!(rt;
         ran.pixels.as_slice(),
         [255, 10, 20, 30, 128, 1, 2, 3, 0, 0, 0, 0].as_slice()
     );
-    let ran = run_with(alloc, "", TWO_CLIPS, files_of(alloc, &[A, B])?, &[4])?;
+    let ran = run_with(&rt, alloc, "", TWO_CLIPS, files_of(alloc, &[A, B])?, &[4])?;
     assert_eq!(rt; ran.status, Status::Ok);
     assert_eq!(rt;
         ran.pixels.as_slice(),
@@ -290,7 +299,7 @@ fn each_field_of_a_header_is_told(rt: HostRuntime) -> Result<(), Fail> {
         }
         let mut clips = BTreeMap::new(alloc);
         let _ = clips.insert(String::from_str(alloc, "a.afr")?, bytes)?;
-        let ran = run_with(alloc, "", ONE_CLIP, clips, &[])?;
+        let ran = run_with(&rt, alloc, "", ONE_CLIP, clips, &[])?;
         let line = format!(in alloc; "afhost: clip a.afr: {why}\n")?;
         assert_eq!(rt; ran.status, Status::Clip, "{why}");
         assert_eq!(rt; ran.note.as_slice(), line.as_bytes());
@@ -303,7 +312,7 @@ fn a_project_without_clips_asks_for_none(rt: HostRuntime) -> Result<(), Fail> {
     let alloc = rt.alloc();
     let text =
         "{\"version\":1,\"depth\":8,\"root\":0,\"clips\":[],\"comps\":[{\"width\":1,\"height\":1,\"frame\":[1,24],\"frames\":1,\"layers\":[]}]}";
-    let ran = run_with(alloc, "", text, files_of(alloc, &[A])?, &[0, 1, 2, 3])?;
+    let ran = run_with(&rt, alloc, "", text, files_of(alloc, &[A])?, &[0, 1, 2, 3])?;
     assert_eq!(rt; ran.status, Status::Ok);
     assert_eq!(rt; ran.pixels.as_slice(), [0, 0, 0, 0].as_slice());
     Ok(())
@@ -355,7 +364,7 @@ fn a_clip_has_its_pictures_in_its_own_time(rt: HostRuntime) -> Result<(), Fail> 
         let text = format!(in alloc;
             "{{\"version\":1,\"depth\":8,\"root\":0,\"clips\":[{{\"name\":\"a.afr\",\"width\":1,\"height\":1,\"depth\":8,\"frame\":[1,24],\"frames\":2}}],\"comps\":[{{\"width\":1,\"height\":1,\"frame\":{frame},\"frames\":4,\"layers\":[{{\"source\":{{\"clip\":0}}{members}}}]}}]}}"
         )?;
-        let ran = run_with(alloc, "", text.as_str(), files_of(alloc, &[A])?, &[])?;
+        let ran = run_with(&rt, alloc, "", text.as_str(), files_of(alloc, &[A])?, &[])?;
         assert_eq!(rt; ran.status, Status::Ok, "{members}");
         assert_eq!(rt; ran.pixels.as_slice(), *pixels, "{frame} {members}");
     }
@@ -392,9 +401,84 @@ fn clips_change_depth(rt: HostRuntime) -> Result<(), Fail> {
         let text = format!(in alloc;
             "{{\"version\":1,\"depth\":{depth},\"root\":0,\"clips\":[{{\"name\":\"a.afr\",\"width\":1,\"height\":1,\"depth\":{of_clip},\"frame\":[1,24],\"frames\":2}}],\"comps\":[{{\"width\":1,\"height\":1,\"frame\":[1,24],\"frames\":2,\"layers\":[{{\"source\":{{\"clip\":0}}}}]}}]}}"
         )?;
-        let ran = run_with(alloc, "", text.as_str(), files_of(alloc, &[file])?, &[])?;
+        let ran = run_with(
+            &rt,
+            alloc,
+            "",
+            text.as_str(),
+            files_of(alloc, &[file])?,
+            &[],
+        )?;
         assert_eq!(rt; ran.status, Status::Ok, "{of_clip} in {depth}");
         assert_eq!(rt; ran.pixels.as_slice(), pixels, "{of_clip} in {depth}");
+    }
+    Ok(())
+}
+
+/// The depths of the project and of the clip, a picture of the clip of 3 by 2 pixels, and what a frame of 2 by 2 pixels shows of it.
+type Part = (u8, u8, &'static [u8], &'static [u8]);
+
+const PICTURE_8: &[u8] = &[
+    255, 200, 0, 0, 255, 10, 20, 30, 128, 1, 2, 3, 7, 7, 0, 0, 9, 0, 9, 0, 11, 0, 0, 11,
+];
+
+const PICTURE_16: &[u8] = &[
+    0x80, 0, 0x70, 0, 0, 0, 0, 0, 0x80, 0, 0x40, 0, 0, 0, 0, 129, 0x40, 0x40, 0, 64, 0, 65, 0, 0,
+    0, 7, 0, 7, 0, 0, 0, 0, 0, 9, 0, 0, 0, 9, 0, 0, 0, 11, 0, 0, 0, 0, 0, 11,
+];
+
+/// The picture is one pixel to the left and one below: of its upper row the second and the third pixel are seen, below two that are
+/// transparent. Channels change depth as above.
+const PARTS: &[Part] = &[
+    (
+        8,
+        8,
+        PICTURE_8,
+        &[0, 0, 0, 0, 0, 0, 0, 0, 255, 10, 20, 30, 128, 1, 2, 3],
+    ),
+    (
+        16,
+        16,
+        PICTURE_16,
+        &[
+            0, 0, 0, 0, 0, 0, 0, 0, 0, 0, 0, 0, 0, 0, 0, 0, 0x80, 0, 0x40, 0, 0, 0, 0, 129, 0x40,
+            0x40, 0, 64, 0, 65, 0, 0,
+        ],
+    ),
+    (
+        16,
+        8,
+        PICTURE_8,
+        &[
+            0, 0, 0, 0, 0, 0, 0, 0, 0, 0, 0, 0, 0, 0, 0, 0, 0x80, 0, 5, 5, 10, 10, 15, 15, 0x40,
+            0x40, 0, 129, 1, 1, 1, 0x82,
+        ],
+    ),
+    (
+        8,
+        16,
+        PICTURE_16,
+        &[0, 0, 0, 0, 0, 0, 0, 0, 255, 128, 0, 1, 128, 0, 1, 0],
+    ),
+];
+
+#[test]
+fn a_frame_shows_a_part_of_a_clip(rt: HostRuntime) -> Result<(), Fail> {
+    let alloc = rt.alloc();
+    for (depth, of_clip, picture, shown) in PARTS {
+        let text = format!(in alloc;
+            "{{\"version\":1,\"depth\":{depth},\"root\":0,\"clips\":[{{\"name\":\"a.afr\",\"width\":3,\"height\":2,\"depth\":{of_clip},\"frame\":[1,24],\"frames\":1}}],\"comps\":[{{\"width\":2,\"height\":2,\"frame\":[1,24],\"frames\":1,\"layers\":[{{\"source\":{{\"clip\":0}},\"x\":-1,\"y\":1}}]}}]}}"
+        )?;
+        let mut bytes = file_of(alloc, &("a.afr", 3, *of_clip, 1, *picture))?;
+        // The height is 2.
+        if let Some(height) = bytes.get_mut(11) {
+            *height = 2;
+        }
+        let mut clips = BTreeMap::new(alloc);
+        let _ = clips.insert(String::from_str(alloc, "a.afr")?, bytes)?;
+        let ran = run_with(&rt, alloc, "", text.as_str(), clips, &[])?;
+        assert_eq!(rt; ran.status, Status::Ok, "{of_clip} in {depth}");
+        assert_eq!(rt; ran.pixels.as_slice(), *shown, "{of_clip} in {depth}");
     }
     Ok(())
 }
@@ -410,7 +494,7 @@ fn clips_declare_so_many_bytes(rt: HostRuntime) -> Result<(), Fail> {
         let text = format!(in alloc;
             "{{\"version\":1,\"depth\":8,\"root\":0,\"clips\":[{{\"name\":\"a\",\"width\":221,\"height\":241,\"depth\":8,\"frame\":[1,24],\"frames\":10080}},{{\"name\":\"b\",\"width\":1,\"height\":1,\"depth\":8,\"frame\":[1,24],\"frames\":1}},{{\"name\":\"c\",\"width\":1,\"height\":1,\"depth\":8,\"frame\":[1,24],\"frames\":1}},{{\"name\":\"d\",\"width\":1,\"height\":1,\"depth\":8,\"frame\":[1,24],\"frames\":{frames}}}],\"comps\":[{{\"width\":1,\"height\":1,\"frame\":[1,24],\"frames\":1,\"layers\":[]}}]}}"
         )?;
-        let ran = run_with(alloc, "", text.as_str(), BTreeMap::new(alloc), &[])?;
+        let ran = run_with(&rt, alloc, "", text.as_str(), BTreeMap::new(alloc), &[])?;
         assert_eq!(rt; ran.status, status, "{line}");
         assert_eq!(rt; ran.note.as_slice(), line.as_bytes());
     }

@@ -1,14 +1,17 @@
 //! Frames of a row of three pixels, worked by hand, through whole runs.
 
 use crate::runs::no_clips;
-use fx_stock::{Stock, stock_is_steady};
-use host_io::{NeverSink, NeverSource, Status};
+use fx_stock::Stock;
+use host_io::{NeverSink, NeverSource, NoGate, Status};
 use host_run::run;
 use std::alloc::Global;
+use std::sync::Wait;
 use std::test::Fail;
+use std::thread::Threads;
 
 /// The bytes behind the header of a composition of this depth, width and height 1, with so many frames of 1/24 and these layers.
 pub(crate) fn rendered(
+    rt: &(impl Threads + Wait + Sync),
     alloc: Global,
     depth: u32,
     width: u32,
@@ -21,8 +24,8 @@ pub(crate) fn rendered(
     let mut project = NeverSource::new(text.as_bytes().to_vec(alloc)?, 1000);
     let mut out = NeverSink::new(alloc, 1000);
     let mut notes = NeverSink::new(alloc, 1000);
-    stock_is_steady();
     if run(
+        rt,
         alloc,
         &[],
         &Stock,
@@ -30,6 +33,7 @@ pub(crate) fn rendered(
         &mut no_clips(alloc),
         &mut out,
         &mut notes,
+        &NoGate,
     ) != Status::Ok
     {
         return Err("a run that ends well")?;
@@ -38,8 +42,13 @@ pub(crate) fn rendered(
 }
 
 /// The same at depth 8 and width 3.
-fn drawn(alloc: Global, layers: &str, frames: u32) -> Result<Vec<u8>, Fail> {
-    rendered(alloc, 8, 3, frames, layers)
+fn drawn(
+    rt: &(impl Threads + Wait + Sync),
+    alloc: Global,
+    layers: &str,
+    frames: u32,
+) -> Result<Vec<u8>, Fail> {
+    rendered(rt, alloc, 8, 3, frames, layers)
 }
 
 /// The bytes of pixels that are `.` for none, `C` for the colour, and `h` for it at half its opacity.
@@ -90,7 +99,7 @@ fn layers_lie_where_their_streams_put_them(rt: HostRuntime) -> Result<(), Fail> 
         ),
     ] {
         let layer = format!(in alloc; "{{\"source\":{{\"solid\":[2,1,255,10,20,30]}},{members}}}")?;
-        let bytes = drawn(alloc, layer.as_str(), frames)?;
+        let bytes = drawn(&rt, alloc, layer.as_str(), frames)?;
         assert_eq!(rt; bytes, pixels(alloc, picture)?, "{members}");
     }
     Ok(())
@@ -101,7 +110,7 @@ fn layers_lie_over_each_other(rt: HostRuntime) -> Result<(), Fail> {
     // (128,128,0,0) over (255,0,0,255) is (255,128,0,127).
     let over =
         "{\"source\":{\"solid\":[1,1,128,128,0,0]}},{\"source\":{\"solid\":[2,1,255,0,0,255]}}";
-    let bytes = drawn(rt.alloc(), over, 1)?;
+    let bytes = drawn(&rt, rt.alloc(), over, 1)?;
     assert_eq!(rt;
         bytes.as_slice(),
         [255, 128, 0, 127, 255, 0, 0, 255, 0, 0, 0, 0].as_slice()
@@ -109,7 +118,7 @@ fn layers_lie_over_each_other(rt: HostRuntime) -> Result<(), Fail> {
     // (128,5,10,15) over itself: alpha 128 + 64, and 5 + 2, 10 + 5, 15 + 7.
     let half = "{\"source\":{\"solid\":[1,1,255,10,20,30]},\"opacity\":5000}";
     let twice = format!(in rt.alloc(); "{half},{half}")?;
-    let bytes = drawn(rt.alloc(), twice.as_str(), 1)?;
+    let bytes = drawn(&rt, rt.alloc(), twice.as_str(), 1)?;
     assert_eq!(rt;
         bytes.as_slice(),
         [192, 7, 15, 22, 0, 0, 0, 0, 0, 0, 0, 0].as_slice()

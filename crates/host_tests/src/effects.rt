@@ -6,7 +6,9 @@ use host_io::Status;
 use std::alloc::Global;
 use std::collections::BTreeMap;
 use std::process::Abort;
+use std::sync::Wait;
 use std::test::Fail;
+use std::thread::Threads;
 
 /// Two pixels, (255, 1, 2, 3) and (255, 4, 5, 6), and none at the right.
 const THREE: &str =
@@ -19,11 +21,16 @@ type Coloured = (&'static str, &'static [u8]);
 type Moved = (&'static str, &'static [u8; 12]);
 
 /// The frame of the three pixels under these members, over layers that are not seen.
-fn moved(alloc: Global, members: &str, map: &str) -> Result<Vec<u8>, Fail> {
+fn moved(
+    rt: &(impl Threads + Wait + Sync),
+    alloc: Global,
+    members: &str,
+    map: &str,
+) -> Result<Vec<u8>, Fail> {
     let text = format!(in alloc;
         "{{\"version\":1,\"depth\":8,\"root\":1,\"comps\":[{THREE},{{\"width\":3,\"height\":1,\"frame\":[1,24],\"frames\":1,\"layers\":[{{\"source\":{{\"comp\":0}},{members}}},{{\"source\":{{\"solid\":[3,1,{map}]}},\"out\":[0,1]}}]}}]}}"
     )?;
-    let ran = run_with(alloc, "", text.as_str(), BTreeMap::new(alloc), &[])?;
+    let ran = run_with(rt, alloc, "", text.as_str(), BTreeMap::new(alloc), &[])?;
     if ran.status != Status::Ok {
         return Err("a run that ends well")?;
     }
@@ -32,7 +39,7 @@ fn moved(alloc: Global, members: &str, map: &str) -> Result<Vec<u8>, Fail> {
 
 /// The solid (255, 10, 20, 30), or with other channels at 16 bits, behind these effects.
 fn coloured(
-    rt: &impl Abort,
+    rt: &(impl Abort + Threads + Wait + Sync),
     alloc: Global,
     depth: u32,
     solid: &str,
@@ -42,7 +49,7 @@ fn coloured(
         let layer = format!(in alloc;
             "{{\"source\":{{\"solid\":[1,1,{solid}]}},\"effects\":[{effects}]}}"
         )?;
-        let picture = rendered(alloc, depth, 1, 1, layer.as_str())?;
+        let picture = rendered(rt, alloc, depth, 1, 1, layer.as_str())?;
         assert_eq!(rt; picture.as_slice(), *pixel, "{effects}");
     }
     Ok(())
@@ -92,6 +99,7 @@ fn effects_apply_in_their_order(rt: HostRuntime) -> Result<(), Fail> {
 fn a_blur_draws_around_its_input(rt: HostRuntime) -> Result<(), Fail> {
     let alloc = rt.alloc();
     let wide = rendered(
+        &rt,
         alloc,
         8,
         3,
@@ -103,6 +111,7 @@ fn a_blur_draws_around_its_input(rt: HostRuntime) -> Result<(), Fail> {
         [41, 41, 41, 41, 51, 51, 51, 51, 41, 41, 41, 41].as_slice()
     );
     let point = rendered(
+        &rt,
         alloc,
         8,
         3,
@@ -119,6 +128,7 @@ fn a_blur_draws_around_its_input(rt: HostRuntime) -> Result<(), Fail> {
 #[test]
 fn a_shadow_lies_under_its_input(rt: HostRuntime) -> Result<(), Fail> {
     let picture = rendered(
+        &rt,
         rt.alloc(),
         8,
         2,
@@ -152,7 +162,7 @@ fn a_nested_composition_behind_effects(rt: HostRuntime) -> Result<(), Fail> {
     ];
     for (members, picture) in rows {
         assert_eq!(rt;
-            moved(alloc, members, "0,0,0,0")?.as_slice(),
+            moved(&rt, alloc, members, "0,0,0,0")?.as_slice(),
             picture.as_slice(),
             "{members}"
         );
@@ -174,7 +184,7 @@ fn a_map_displaces_its_input(rt: HostRuntime) -> Result<(), Fail> {
         ("0,0,0,0", &[255, 1, 2, 3, 255, 4, 5, 6, 0, 0, 0, 0]),
     ] {
         assert_eq!(rt;
-            moved(alloc, members, map)?.as_slice(),
+            moved(&rt, alloc, members, map)?.as_slice(),
             picture.as_slice(),
             "{map}"
         );
@@ -193,7 +203,7 @@ fn a_matte_is_taken_behind_its_effects(rt: HostRuntime) -> Result<(), Fail> {
             "{{\"source\":{{\"solid\":[1,1,255,255,255,255]}},\"effects\":[{effects}]}},{{\"source\":{{\"solid\":[1,1,255,10,20,30]}},\"matte\":\"Luma\"}}"
         )?;
         assert_eq!(rt;
-            rendered(alloc, 8, 1, 1, layers.as_str())?.as_slice(),
+            rendered(&rt, alloc, 8, 1, 1, layers.as_str())?.as_slice(),
             picture.as_slice()
         );
     }
@@ -203,6 +213,7 @@ fn a_matte_is_taken_behind_its_effects(rt: HostRuntime) -> Result<(), Fail> {
 #[test]
 fn parameters_are_read_at_the_tick(rt: HostRuntime) -> Result<(), Fail> {
     let picture = rendered(
+        &rt,
         rt.alloc(),
         8,
         1,

@@ -21,3 +21,7 @@ mod nodes;
 mod outside;
 #[cfg(test)]
 mod runs;
+#[cfg(test)]
+mod shared;
+#[cfg(test)]
+mod workers;

@@ -3,7 +3,9 @@
 use crate::drawn::{pixels, rendered};
 use std::alloc::Global;
 use std::process::Abort;
+use std::sync::Wait;
 use std::test::Fail;
+use std::thread::Threads;
 
 /// A layer of one pixel: its colour, written as alpha, red, green and blue, and its other members.
 type Dot = (&'static str, &'static str);
@@ -40,12 +42,17 @@ fn layer(alloc: Global, (colour, members): (&str, &str)) -> Result<String, Fail>
 }
 
 /// Renders each row at this depth.
-fn makes(rt: &impl Abort, alloc: Global, depth: u32, rows: &[Row]) -> Result<(), Fail> {
+fn makes(
+    rt: &(impl Abort + Threads + Wait + Sync),
+    alloc: Global,
+    depth: u32,
+    rows: &[Row],
+) -> Result<(), Fail> {
     for (above, below, want) in rows {
         let above = layer(alloc, *above)?;
         let below = layer(alloc, *below)?;
         let layers = format!(in alloc; "{above},{below}")?;
-        let bytes = rendered(alloc, depth, 1, 1, layers.as_str())?;
+        let bytes = rendered(rt, alloc, depth, 1, 1, layers.as_str())?;
         assert_eq!(rt; bytes.as_slice(), *want, "{layers}");
     }
     Ok(())
@@ -193,13 +200,18 @@ fn colours_of_depth_16(rt: HostRuntime) -> Result<(), Fail> {
 }
 
 /// A white layer of this width with these members, over a row of three pixels with those, is this picture of so many frames.
-fn covers(rt: &impl Abort, alloc: Global, frames: u32, rows: &[Cover]) -> Result<(), Fail> {
+fn covers(
+    rt: &(impl Abort + Threads + Wait + Sync),
+    alloc: Global,
+    frames: u32,
+    rows: &[Cover],
+) -> Result<(), Fail> {
     for (above, below, picture) in rows {
         let (width, members) = above;
         let layers = format!(in alloc;
             "{{\"source\":{{\"solid\":[{width},1,255,255,255,255]}}{members}}},{{\"source\":{{\"solid\":[3,1,255,10,20,30]}}{below}}}"
         )?;
-        let bytes = rendered(alloc, 8, 3, frames, layers.as_str())?;
+        let bytes = rendered(rt, alloc, 8, 3, frames, layers.as_str())?;
         assert_eq!(rt; bytes, pixels(alloc, *picture)?, "{layers}");
     }
     Ok(())
@@ -297,7 +309,7 @@ fn two_pairs_of_a_matte_and_its_layer(rt: HostRuntime) -> Result<(), Fail> {
     let left = layer(alloc, ("255,255,255,255", ""))?;
     let right = layer(alloc, ("255,255,255,255", ",\"x\":2"))?;
     let layers = format!(in alloc; "{left},{under},{right},{under}")?;
-    let bytes = rendered(alloc, 8, 3, 1, layers.as_str())?;
+    let bytes = rendered(&rt, alloc, 8, 3, 1, layers.as_str())?;
     assert_eq!(rt; bytes, pixels(alloc, "C.C")?);
     Ok(())
 }

@@ -6,7 +6,9 @@ use host_io::Status;
 use std::alloc::Global;
 use std::collections::BTreeMap;
 use std::process::Abort;
+use std::sync::Wait;
 use std::test::Fail;
+use std::thread::Threads;
 
 /// A clip of a red and a green pixel.
 const CLIP: File = ("c.afr", 1, 8, 2, &[255, 255, 0, 0, 255, 0, 255, 0]);
@@ -15,7 +17,13 @@ const CLIP: File = ("c.afr", 1, 8, 2, &[255, 255, 0, 0, 255, 0, 255, 0]);
 type Nest = (&'static str, u32, &'static str);
 
 /// Renders the root of these compositions.
-fn rendered(alloc: Global, comps: &str, root: u32, files: &[File]) -> Result<Vec<u8>, Fail> {
+fn rendered(
+    rt: &(impl Threads + Wait + Sync),
+    alloc: Global,
+    comps: &str,
+    root: u32,
+    files: &[File],
+) -> Result<Vec<u8>, Fail> {
     let clips = if files.is_empty() {
         "[]"
     } else {
@@ -24,7 +32,7 @@ fn rendered(alloc: Global, comps: &str, root: u32, files: &[File]) -> Result<Vec
     let text = format!(in alloc;
         "{{\"version\":1,\"depth\":8,\"root\":{root},\"clips\":{clips},\"comps\":[{comps}]}}"
     )?;
-    let ran = run_with(alloc, "", text.as_str(), files_of(alloc, files)?, &[])?;
+    let ran = run_with(rt, alloc, "", text.as_str(), files_of(alloc, files)?, &[])?;
     if ran.status != Status::Ok {
         return Err("a run that ends well")?;
     }
@@ -37,7 +45,7 @@ fn a_nested_composition_starts_later(rt: HostRuntime) -> Result<(), Fail> {
     let alloc = rt.alloc();
     let text =
         "{\"version\":1,\"depth\":8,\"root\":1,\"comps\":[{\"width\":1,\"height\":1,\"frame\":[1,24],\"frames\":4,\"layers\":[{\"source\":{\"solid\":[1,1,100,100,0,0]}}]},{\"width\":1,\"height\":1,\"frame\":[1,24],\"frames\":4,\"layers\":[{\"source\":{\"comp\":0},\"start\":[2,24]}]}]}";
-    let ran = run_with(alloc, "", text, BTreeMap::new(alloc), &[])?;
+    let ran = run_with(&rt, alloc, "", text, BTreeMap::new(alloc), &[])?;
     assert_eq!(rt; ran.status, Status::Ok);
     assert_eq!(rt;
         ran.pixels.as_slice(),
@@ -94,9 +102,13 @@ const NESTS: &[Nest] = &[
 ];
 
 /// Each picture is that of its compositions.
-fn shows(rt: &impl Abort, alloc: Global, nests: &[Nest]) -> Result<(), Fail> {
+fn shows(
+    rt: &(impl Abort + Threads + Wait + Sync),
+    alloc: Global,
+    nests: &[Nest],
+) -> Result<(), Fail> {
     for (comps, root, picture) in nests {
-        let bytes = rendered(alloc, *comps, *root, &[])?;
+        let bytes = rendered(rt, alloc, *comps, *root, &[])?;
         assert_eq!(rt; bytes, pixels(alloc, *picture)?, "{comps}");
     }
     Ok(())
@@ -116,7 +128,7 @@ fn a_clip_nested_twice(rt: HostRuntime) -> Result<(), Fail> {
     let comps = format!(in alloc;
         "{comp}{{\"clip\":0}}{there},{comp}{{\"comp\":0}}{there},{comp}{{\"comp\":1}}{there}"
     )?;
-    let bytes = rendered(alloc, comps.as_str(), 2, &[CLIP])?;
+    let bytes = rendered(&rt, alloc, comps.as_str(), 2, &[CLIP])?;
     // The fourth pixel of the frames 3 and 4, of 16 bytes each.
     let mut want = vec![in alloc; 0u8; 60]?;
     want.extend_from_slice(&[255, 255, 0, 0])?;
@@ -144,7 +156,7 @@ fn twice_each(alloc: Global, count: u32) -> Result<String, Fail> {
 fn compositions_nest_64_deep(rt: HostRuntime) -> Result<(), Fail> {
     let alloc = rt.alloc();
     let comps = twice_each(alloc, 63)?;
-    let bytes = rendered(alloc, comps.as_str(), 63, &[])?;
+    let bytes = rendered(&rt, alloc, comps.as_str(), 63, &[])?;
     assert_eq!(rt; bytes, pixels(alloc, "CC")?);
     Ok(())
 }

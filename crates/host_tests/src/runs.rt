@@ -1,13 +1,17 @@
 //! Runs over sources and sinks in memory.
 ghost use Rattle.std.specs.Prelude.{◌≡◌, ◌<◌};
 
-use fx_stock::{Stock, stock_is_steady};
-use host_io::{MemSink, MemSource, NeverClips, NeverSink, NeverSource, Source, Status};
-use host_run::{ArgumentsError, DEFAULT_WORKERS, WordsError, program, read_words, run};
+use fx_stock::Stock;
+use host_io::{MemSink, MemSource, NeverClips, NeverSink, NeverSource, NoGate, Source, Status};
+use host_run::{
+    ArgumentsError, DEFAULT_BUDGET, DEFAULT_WORKERS, WordsError, program, read_words, run,
+};
 use std::alloc::{AllocError, Global};
 use std::collections::BTreeMap;
 use std::process::ExitCode;
+use std::sync::Wait;
 use std::test::Fail;
+use std::thread::Threads;
 
 const TWO_PIXELS: &[u8] =
     b"{\"version\":1,\"depth\":8,\"root\":0,\"comps\":[{\"width\":2,\"height\":1,\"frame\":[1,24],\"frames\":1,\"layers\":[{\"source\":{\"solid\":[2,1,255,10,20,30]}}]}]}";
@@ -70,6 +74,7 @@ pub(crate) fn no_clips(alloc: Global) -> NeverClips {
 
 /// Runs over a source and a sink whose calls move at most a piece and fail at one call.
 fn run_over(
+    rt: &(impl Threads + Wait + Sync),
     alloc: Global,
     words: &str,
     text: &[u8],
@@ -83,8 +88,8 @@ fn run_over(
     let mut project = MemSource::new(text.to_vec(alloc)?, piece, read_fails.to_vec(alloc)?);
     let mut out = MemSink::new(alloc, piece, write_fails.to_vec(alloc)?);
     let mut notes = MemSink::new(alloc, 7, Vec::new(alloc));
-    stock_is_steady();
     let status = run(
+        rt,
         alloc,
         &words,
         &Stock,
@@ -92,6 +97,7 @@ fn run_over(
         &mut no_clips(alloc),
         &mut out,
         &mut notes,
+        &NoGate,
     );
     Ok(Ran {
         status,
@@ -103,7 +109,7 @@ fn run_over(
 #[test]
 fn two_pixels_or_a_wide_one_make_37_bytes(rt: HostRuntime) -> Result<(), Fail> {
     for (text, file) in [(TWO_PIXELS, TWO_PIXEL_FILE), (WIDE_PIXEL, WIDE_PIXEL_FILE)] {
-        let ran = run_over(rt.alloc(), "", text, 100, &[], &[])?;
+        let ran = run_over(&rt, rt.alloc(), "", text, 100, &[], &[])?;
         assert_eq!(rt; ran.status, Status::Ok);
         assert_eq!(rt; ran.out.as_slice(), file.as_slice());
         assert_eq!(rt; ran.note.len(), 0);
@@ -132,8 +138,8 @@ fn words_are_settings_or_refused(rt: HostRuntime) -> Result<(), Fail> {
         ("--from|1|--from|1", None),
         ("--to=1|--to=2", None),
         ("--from|1|--from", None),
-        ("--workers|0", None),
-        ("--workers|4", None),
+        ("--worker|4", None),
+        ("--frames|4", None),
         ("--", None),
         ("--from|--to", None),
         ("--from|-1", None),
@@ -150,6 +156,42 @@ fn words_are_settings_or_refused(rt: HostRuntime) -> Result<(), Fail> {
                 assert_eq!(rt; settings.from, from, "at {texts:?}");
                 assert_eq!(rt; settings.to, to, "at {texts:?}");
                 assert_eq!(rt; settings.workers, DEFAULT_WORKERS, "at {texts:?}");
+            }
+            (Err(WordsError::Refused), None) => {}
+            (outcome, _) => assert!(rt; false, "{outcome:?} at {texts:?}"),
+        }
+    }
+    Ok(())
+}
+
+#[test]
+fn workers_and_budget_are_numbers(rt: HostRuntime) -> Result<(), Fail> {
+    let cases: [(&str, Option<(u32, u64)>); 15] = [
+        ("--workers|1", Some((1, DEFAULT_BUDGET))),
+        ("--workers=64", Some((64, DEFAULT_BUDGET))),
+        ("--workers|0000000000007", Some((7, DEFAULT_BUDGET))),
+        ("--workers|0", None),
+        ("--workers=65", None),
+        ("--workers|", None),
+        ("--workers=2|--workers=2", None),
+        ("--budget|0", Some((DEFAULT_WORKERS, 0))),
+        (
+            "--budget=1099511627776",
+            Some((DEFAULT_WORKERS, 1_099_511_627_776)),
+        ),
+        ("--budget=1099511627777", None),
+        ("--budget|-1", None),
+        ("--budget", None),
+        ("--budget=1|--budget|2", None),
+        ("--budget|9|--workers|8|--from=0", Some((8, 9))),
+        ("--budget|--workers|8", None),
+    ];
+    for (texts, want) in cases {
+        let words = words_of(rt.alloc(), texts)?;
+        match (read_words(rt.alloc(), &words), want) {
+            (Ok(settings), Some((workers, budget))) => {
+                assert_eq!(rt; settings.workers, workers, "at {texts:?}");
+                assert_eq!(rt; settings.budget, budget, "at {texts:?}");
             }
             (Err(WordsError::Refused), None) => {}
             (outcome, _) => assert!(rt; false, "{outcome:?} at {texts:?}"),
@@ -212,7 +254,7 @@ fn refusals_write_a_line_and_no_file(rt: HostRuntime) -> Result<(), Fail> {
         ),
     ];
     for (words, text, status, line) in cases {
-        let ran = run_over(alloc, words, text, 3, &[], &[])?;
+        let ran = run_over(&rt, alloc, words, text, 3, &[], &[])?;
         assert_eq!(rt; ran.status, status, "{line}");
         assert_eq!(rt; ran.note.as_slice(), line.as_bytes());
         assert_eq!(rt; ran.out.len(), 0, "{line}");
@@ -231,7 +273,7 @@ fn a_span_is_written_alone(rt: HostRuntime) -> Result<(), Fail> {
         ("--to=0", 0, 1, &[0, 0, 0, 0]),
     ];
     for (words, first, count, pixels) in cases {
-        let ran = run_over(alloc, words, SECOND_FRAME, 4096, &[], &[])?;
+        let ran = run_over(&rt, alloc, words, SECOND_FRAME, 4096, &[], &[])?;
         assert_eq!(rt; ran.status, Status::Ok, "at {words:?}");
         assert_eq!(rt;
             ran.out.get(21..29).unwrap_or(&[]),
@@ -252,8 +294,8 @@ fn refused_words_leave_the_source(rt: HostRuntime) -> Result<(), Fail> {
         let mut project = MemSource::new(TWO_PIXELS.to_vec(alloc)?, 64, Vec::new(alloc));
         let mut out = NeverSink::new(alloc, 64);
         let mut notes = NeverSink::new(alloc, 64);
-        stock_is_steady();
         let _ = run(
+            &rt,
             alloc,
             &words,
             &Stock,
@@ -261,6 +303,7 @@ fn refused_words_leave_the_source(rt: HostRuntime) -> Result<(), Fail> {
             &mut no_clips(alloc),
             &mut out,
             &mut notes,
+            &NoGate,
         );
         let mut into = [0; 8];
         assert_eq!(rt; project.read(&mut into)?, left);
@@ -271,6 +314,7 @@ fn refused_words_leave_the_source(rt: HostRuntime) -> Result<(), Fail> {
 
 /// Over a source, a store and a sink that never fail, no fault is answered: it follows from what `run` says of faults.
 fn run_over_never(
+    rt: &(impl Threads + Wait + Sync),
     alloc: Global,
     project: &mut NeverSource,
     clips: &mut NeverClips,
@@ -281,8 +325,7 @@ fn run_over_never(
     ensures clip { result ≡ Status.ClipFault → ⊥ }
     ensures write { result ≡ Status.WriteFault → ⊥ }
 {
-    stock_is_steady();
-    run(alloc, &[], &Stock, project, clips, out, notes)
+    run(rt, alloc, &[], &Stock, project, clips, out, notes, &NoGate)
 }
 
 #[test]
@@ -296,6 +339,7 @@ fn a_longer_text_is_refused(rt: HostRuntime) -> Result<(), Fail> {
         let mut out = NeverSink::new(alloc, 64);
         let mut notes = NeverSink::new(alloc, 64);
         let ended = run_over_never(
+            &rt,
             alloc,
             &mut project,
             &mut no_clips(alloc),
@@ -310,7 +354,7 @@ fn a_longer_text_is_refused(rt: HostRuntime) -> Result<(), Fail> {
 
 #[test]
 fn a_sink_that_fails_leaves_whole_pieces(rt: HostRuntime) -> Result<(), Fail> {
-    let ran = run_over(rt.alloc(), "", ONE_PIXEL_THRICE, 64, &[], &[2])?;
+    let ran = run_over(&rt, rt.alloc(), "", ONE_PIXEL_THRICE, 64, &[], &[2])?;
     assert_eq!(rt; ran.status, Status::WriteFault);
     assert_eq!(rt; ran.out.len(), 33);
     assert_eq!(rt; ran.note.as_slice(), b"afhost: write fault\n".as_slice());
@@ -321,7 +365,7 @@ fn a_sink_that_fails_leaves_whole_pieces(rt: HostRuntime) -> Result<(), Fail> {
 fn each_read_may_fail(rt: HostRuntime) -> Result<(), Fail> {
     let count = TWO_PIXELS.len() as u64;
     for call in 0..count + 2 {
-        let ran = run_over(rt.alloc(), "", TWO_PIXELS, 1, &[call], &[])?;
+        let ran = run_over(&rt, rt.alloc(), "", TWO_PIXELS, 1, &[call], &[])?;
         let (status, len, line) = if call <= count {
             (Status::ReadFault, 0, "afhost: read fault\n")
         } else {
@@ -337,7 +381,7 @@ fn each_read_may_fail(rt: HostRuntime) -> Result<(), Fail> {
 #[test]
 fn each_write_may_fail(rt: HostRuntime) -> Result<(), Fail> {
     for call in 0..38u64 {
-        let ran = run_over(rt.alloc(), "", TWO_PIXELS, 1, &[], &[call])?;
+        let ran = run_over(&rt, rt.alloc(), "", TWO_PIXELS, 1, &[], &[call])?;
         let status = if call < 37 {
             Status::WriteFault
         } else {
@@ -365,8 +409,8 @@ fn each_write_of_a_note_may_fail(rt: HostRuntime) -> Result<(), Fail> {
         let mut project = NeverSource::new(TWO_PIXELS.to_vec(alloc)?, 64);
         let mut out = NeverSink::new(alloc, 64);
         let mut notes = MemSink::new(alloc, 1, vec![in alloc; call]?);
-        stock_is_steady();
         let ended = run(
+            &rt,
             alloc,
             &words,
             &Stock,
@@ -374,6 +418,7 @@ fn each_write_of_a_note_may_fail(rt: HostRuntime) -> Result<(), Fail> {
             &mut no_clips(alloc),
             &mut out,
             &mut notes,
+            &NoGate,
         );
         assert_eq!(rt; ended, Status::Span, "write {call}");
         assert_eq!(rt;
@@ -414,8 +459,8 @@ fn the_program_ends_with_the_status(rt: HostRuntime) -> Result<(), Fail> {
         let mut project = NeverSource::new(TWO_PIXELS.to_vec(alloc)?, 64);
         let mut out = NeverSink::new(alloc, 64);
         let mut notes = NeverSink::new(alloc, 64);
-        stock_is_steady();
         let ended = program(
+            &rt,
             alloc,
             arguments,
             &Stock,
@@ -423,6 +468,7 @@ fn the_program_ends_with_the_status(rt: HostRuntime) -> Result<(), Fail> {
             &mut no_clips(alloc),
             &mut out,
             &mut notes,
+            &NoGate,
         );
         assert!(rt; ended == ExitCode::from(code), "{line}");
         assert_eq!(rt; out.bytes().len(), written, "{line}");

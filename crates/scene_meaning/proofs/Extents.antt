@@ -1,5 +1,5 @@
 -- How far planes reach.
-use Rattle.std.proofs.Common.{◌≡◌, ℕ, zero, suc, ◌+◌, ◌<◌, ◌≤◌, ℤ, List, [], ◌∷◌, ◌++◌, length, map, refl, sym, ap, subst, ◌∙◌, arith}
+use Rattle.std.proofs.Common.{◌≡◌, ℕ, zero, suc, ◌+◌, ◌<◌, ℤ, List, [], ◌∷◌, ◌++◌, length, map, refl, sym, ap, subst, ◌∙◌, arith}
 use Rattle.std.specs.Prelude.{slice_get, slice_index_or, option_map, take, Option, Some, Result, Ok, Err, IfOk}
 use Rattle.std.specs.List.{All, AllZip}
 use Rattle.std.specs.Option.{option_map_or}
@@ -81,28 +81,9 @@ module _ {A B : Type 0} (P : A → B → Type 0) where
   zip_push (x ∷ xs) [] (suc k) y zip within is = absurd zip
   zip_push (x ∷ xs) (z ∷ ys) (suc k) y zip within is = (zip.0, zip_push xs ys k y zip.1 (omega (arith, within)) is)
 
-  pub zip_read : (xs : List A) (ys : List B) (k i : ℕ) (x : A) (d : B) → AllZip P (take k xs) ys → i < k → slice_get xs i ≡ Some x → P x (slice_index_or ys i d)
-  zip_read [] ys k i x d zip before found = let wrong : ⊥ = cc in absurd wrong
-  zip_read (z ∷ xs) ys zero i x d zip before found = absurd (omega (arith, before))
-  zip_read (z ∷ xs) [] (suc k) i x d zip before found = absurd zip
-  zip_read (z ∷ xs) (y ∷ ys) (suc k) zero x d zip before found =
-      let same : z ≡ x = cc in
-      subst (λ (a : A). P a y) same zip.0
-  zip_read (z ∷ xs) (y ∷ ys) (suc k) (suc i) x d zip before found = zip_read xs ys k i x d zip.1 (omega (arith, before)) found
-
-  pub zip_long : (xs : List A) (ys : List B) (k : ℕ) → AllZip P (take k xs) ys → k ≤ length xs → length ys ≡ k
-  zip_long [] [] k zip few = omega (arith, few)
-  zip_long [] (y ∷ ys) zero zip few = absurd zip
-  zip_long [] (y ∷ ys) (suc k) zip few = absurd (omega (arith, few))
-  zip_long (x ∷ xs) [] zero zip few = refl
-  zip_long (x ∷ xs) (y ∷ ys) zero zip few = absurd zip
-  zip_long (x ∷ xs) [] (suc k) zip few = absurd zip
-  zip_long (x ∷ xs) (y ∷ ys) (suc k) zip few = ap suc (zip_long xs ys k zip.1 (omega (arith, few)))
-
--- what was made for the item of this place
-pub at_place : {A B E : Type 0} (P : A → B → Type 0) (xs : List A) (i : ℕ) (d : A) (made : Result B E) → IfOk made (P (slice_index_or xs i d)) → IfOk made (λ y. (x : A) → slice_get xs i ≡ Some x → P x y)
-at_place P xs i d (Ok y) is = λ x found. subst (λ a. P a y) (get_or_from_slice_get xs i x d found) is
-at_place P xs i d (Err e) is = tt
+-- what holds of the item of this place
+pub at_place : {A B : Type 0} (P : A → B → Type 0) (xs : List A) (i : ℕ) (d : A) (y : B) → P (slice_index_or xs i d) y → (x : A) → slice_get xs i ≡ Some x → P x y
+at_place P xs i d y is x found = subst (λ a. P a y) (get_or_from_slice_get xs i x d found) is
 
 -- the extents of what is wanted
 module _ (set : EffectSet) (scene : SceneParts) (comp : PlainComp) (layer : PlainLayer) (number : ℕ) (layers : List ℕ) where

@@ -1,13 +1,11 @@
 -- Effects of a scene as they are given to their set, and ticks within 36,000 seconds.
-use Rattle.std.proofs.Common.{◌≡◌, ℕ, zero, suc, ◌+◌, ◌*◌, ◌/◌, ◌<◌, ◌≤◌, false, ℤ, pos, negsuc, ◌*ℤ◌, ◌≤ℤ◌, ◌<ℤ◌, List, length, inl, inr, sym, ap, subst, arith}
+use Rattle.std.proofs.Common.{◌≡◌, ℕ, zero, suc, ◌+◌, ◌*◌, ◌≤◌, false, ℤ, pos, negsuc, ◌*ℤ◌, ◌≤ℤ◌, ◌<ℤ◌, List, length, inl, inr, ap, arith}
 use Rattle.std.specs.Prelude.{Some, slice_get, int_lt, unsigned_abs}
 use Rattle.std.specs.List.{All}
-use Rattle.std.specs.Int.{◌∣◌}
 use Rattle.std.proofs.lemmas.Bool.{cases_lt}
 use Rattle.std.proofs.lemmas.Int.{ints, clamps}
-use Rattle.std.proofs.lemmas.Option.{slice_get_within, get_or_from_slice_get}
 use Rattle.std.proofs.Math.Nat.{mul-le-mul_left}
-use Rattle.rational_time.specs.Times.{tick_of, held_of, IsNear}
+use Rattle.rational_time.specs.Times.{tick_of}
 use Rattle.rational_time.specs.declared.time.Time.{Time}
 use Rattle.rational_time.specs.declared.time.TheConstants.{MOST_SECONDS}
 use Rattle.rational_time.proofs.Numbers.{abs-product, scaled_up, scaled_near}

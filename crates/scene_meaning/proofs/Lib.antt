@@ -5,6 +5,7 @@ pub mod Given
 pub mod Inside
 pub mod Kept
 mod KeyParts
+mod KnownExtents
 pub mod Lists
 pub mod Nodes
 mod Numbers

@@ -1,33 +1,32 @@
 -- What layers show is premultiplied, transparent outside its extent, and not far away.
-use Rattle.std.proofs.Common.{◌≡◌, ℕ, zero, suc, ◌+◌, ◌*◌, ◌<◌, ◌≤◌, ℤ, pos, negsuc, ◌≤ℤ◌, ◌<ℤ◌, ◌*ℤ◌, Bool, true, false, List, [], ◌∷◌, length, map, get_or, inl, inr, refl, sym, ap, subst, ◌∙◌, arith}
-use Rattle.std.specs.Prelude.{Option, Some, None, IfSome, slice_get, slice_index_or, take, not, ◌&&◌, int_le, int_lt, unsigned_abs, unwrap_or, if◌then◌else◌}
-use Rattle.std.specs.List.{All, AllByRecursion, AllZip, fold}
+use Rattle.std.proofs.Common.{◌≡◌, ℕ, zero, suc, ◌+◌, ◌*◌, ◌<◌, ◌≤◌, ℤ, pos, negsuc, ◌<ℤ◌, Bool, true, false, List, [], ◌∷◌, length, map, get_or, inl, inr, refl, sym, ap, subst, ◌∙◌, arith}
+use Rattle.std.specs.Prelude.{Option, Some, None, IfSome, slice_get, take, not, ◌&&◌, int_le, int_lt, unsigned_abs, if◌then◌else◌}
+use Rattle.std.specs.List.{All, AllByRecursion, AllZip}
 use Rattle.std.proofs.lemmas.List.Elements.{All-nil, All-cons, All-head, All-tail}
 use Rattle.std.specs.Option.{option_map_or, option_map}
 use Rattle.std.specs.Prelude.{nat_eq}
 use Rattle.std.proofs.lemmas.Bool.{cases_lt, eqb-true}
 use Rattle.std.proofs.lemmas.List.{get_or_past}
-use Rattle.std.proofs.lemmas.Int.{ints, clamps}
+use Rattle.std.proofs.lemmas.Int.{ints}
 use Rattle.std.proofs.lemmas.List.{length-map}
-use Rattle.std.proofs.lemmas.Option.{slice_get-map, slice_get-get_or, slice_get_within, get_or_from_slice_get}
-use Rattle.std.proofs.Math.ListN.{get_or-map}
+use Rattle.std.proofs.lemmas.Option.{slice_get-map}
 use Rattle.std.proofs.Math.Nat.{mul-le-mul_left}
 use Rattle.geom_rect.specs.Rect.{Has, has, frame_rect}
-use Rattle.geom_rect.proofs.Points.{has-true, Has-from_true}
+use Rattle.geom_rect.proofs.Points.{Has-from_true}
 use Rattle.argb_pixel.specs.Depth.{IsDepth}
-use Rattle.argb_pixel.specs.Pixel.{Argb, IsPremultiplied, clear, each_channel, rounded, depth_of}
-use Rattle.argb_pixel.proofs.Channels.{clear_premultiplied, depth_pos}
+use Rattle.argb_pixel.specs.Pixel.{Argb, IsPremultiplied, clear, rounded, depth_of}
+use Rattle.argb_pixel.proofs.Channels.{clear_premultiplied}
 use Rattle.argb_pixel.proofs.Rounded.{rounded_mono, rounded_whole}
-use Rattle.comp_stack.specs.Stack.{Plane, PlacedPlane, PlacedLayer, solid_plane, stack_at}
+use Rattle.comp_stack.specs.Stack.{Plane, PlacedLayer, solid_plane, stack_at}
 use Rattle.comp_stack.specs.Laws.{IsPremultipliedPlane, IsPremultipliedLayer}
 use Rattle.comp_stack.proofs.Premultiplied.{stack_fits}
-use Rattle.rational_time.specs.Times.{tick_of, held_of, frame_at}
+use Rattle.rational_time.specs.Times.{tick_of, frame_at}
 use Rattle.param_stream.specs.Curve.{IsBetween, value_at}
 use Rattle.param_stream.proofs.Values.{value_within}
 use Rattle.rational_time.proofs.Numbers.{scaled_up}
 use Rattle.project_model.specs.Bounds.{most_of, full_opacity}
 use Rattle.project_model.specs.Rules.{has_matte, layer_above}
-use Rattle.project_model.specs.Sound.{IsColour, IsWritten, IsSoundClip, IsSoundItem, IsSoundLayer, IsSoundComp, IsPictureSize}
+use Rattle.project_model.specs.Sound.{IsWritten, IsSoundClip, IsSoundItem, IsSoundLayer, IsSoundComp}
 use Rattle.project_model.specs.declared.clip.ClipUse.{ClipUse}
 use Rattle.project_model.specs.declared.comp.Comp.{Comp}
 use Rattle.project_model.specs.declared.layer.Layer.{Layer}
@@ -38,7 +37,7 @@ use Rattle.project_model.specs.declared.plain.PlainComp.{PlainComp}
 use Rattle.project_model.specs.declared.plain.PlainFx.{PlainFx}
 use Rattle.project_model.specs.declared.plain.PlainLayer.{PlainLayer}
 use Rattle.project_model.specs.Effects.{Use, schema_of, use_of}
-use Rattle.project_model.specs.Plain.{plain_comp, plain_fx, plain_layer, plain_of}
+use Rattle.project_model.specs.Plain.{plain_comp, plain_fx, plain_layer}
 use Rattle.project_model.specs.declared.effect.FxUse.{FxUse}
 use Rattle.rational_time.specs.declared.time.Time.{Time}
 use Rattle.frame_file.specs.Clip.{Pictures, in_depth, pixel_in}
@@ -55,7 +54,7 @@ use Rattle.scene_meaning.specs.Drawn.{nothing, moment_at, input_plane}
 use Rattle.scene_meaning.specs.Planes.{IsLawfulScene, IsBoxedPlane, PlanesAreBoxed}
 use Rattle.scene_meaning.specs.Scene.{SceneParts, IsClipOf, IsPremultipliedClip, EndsInTime, plain_scene}
 use Rattle.effect_api.specs.Sets.{EffectSet, Drawing}
-use Rattle.scene_meaning.specs.Shown.{PlainScene, Showing, shown, shown_in, shown_from, comp_shown, end_of_comp, plane_in, seen_plane, matte_plane, placed_of, placed_layers, is_seen, serves_as_matte, base_in, most_in, picture_at, picture_plane, clip_plane, comp_plane, sources_of, source_plane, named_plane, fx_plane, plane_behind, plane_of_item, since}
+use Rattle.scene_meaning.specs.Shown.{PlainScene, Showing, shown, shown_in, shown_from, comp_shown, end_of_comp, plane_in, seen_plane, matte_plane, placed_of, placed_layers, is_seen, serves_as_matte, base_in, picture_at, picture_plane, clip_plane, comp_plane, sources_of, source_plane, named_plane, fx_plane, plane_behind, plane_of_item, since}
 use Rattle.scene_meaning.proofs.Inside.{found_holds}
 use Rattle.scene_meaning.proofs.Given.{use_at, given_at, frame_low, frame_high, held_inside}
 use Rattle.scene_meaning.proofs.Nodes.{behind_more}

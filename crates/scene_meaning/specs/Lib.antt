@@ -2,6 +2,7 @@ pub mod Boxes
 pub mod Drawn
 pub mod Extents
 pub mod Keys
+pub mod Known
 pub mod Nodes
 pub mod Output
 pub mod Parts

@@ -1,5 +1,5 @@
 //! How far the planes of a scene's nodes reach.
-ghost use Rattle.std.specs.Prelude.{◌≡◌, ◌<◌, ◌≤◌, ◌+◌, ℤ, length, IfOk, IfSome, take, slice_get, Some};
+ghost use Rattle.std.specs.Prelude.{◌≡◌, ◌<◌, ◌≤◌, ◌+◌, ℤ, length, IfOk, OnOk};
 ghost use Rattle.std.specs.List.{All, AllZip};
 ghost use Rattle.project_model.specs.declared.node.NodeId.TheVariants.{Fx, Source, Stack};
 ghost use Rattle.project_model.specs.Effects.{use_of};
@@ -9,9 +9,9 @@ ghost use Rattle.effect_api.specs.Fits.{IsBased, IsGiven, IsHeld};
 ghost use Rattle.effect_api.specs.Render.{AreExtents};
 ghost use Rattle.effect_api.specs.Sets.{EffectSet};
 ghost use Rattle.effect_api.specs.Wants.{IsWant};
-ghost use Rattle.effect_api.specs.declared.moment.Want.{Want};
 ghost use Rattle.scene_meaning.specs.Boxes.{IsBoxed};
 ghost use Rattle.scene_meaning.specs.Extents.{IsExtent, IsExtentBehind, IsSourceExtent, IsWantedExtent};
+ghost use Rattle.scene_meaning.specs.Known.{AreKnown, KeepsExtent, known_at};
 ghost use Rattle.scene_meaning.specs.Nodes.{HasNode};
 ghost use Rattle.scene_meaning.specs.Parts.{IsCompOf, IsLayerIn, IsLayerOf};
 ghost use Rattle.scene_meaning.specs.Shown.{base_in};
@@ -24,6 +24,11 @@ use host_io::Memory;
 use project_model::{Comp, FxUse, Item, Layer, NodeId};
 use rational_time::Tick;
 use std::alloc::Global;
+use std::collections::BTreeMap;
+
+// The extents of a layer's plane that were found, by how many of its effects it is behind and the tick: at most one for each effect
+// and each tick at which what it draws is looked at. A look-up takes the logarithm of how many there are.
+type KnownExtents = BTreeMap<(usize, i64), Rect>;
 
 impl Scene {
     /// The extent of a node's plane at a tick, where the project's effects are of this set. It is told by what effects want and by their
@@ -84,6 +89,7 @@ fn behind_effect<E: Effect>(
 {
     let comp = comp_at(scene, of);
     let layer = layer_at(scene, of, index as usize);
+    let mut known = BTreeMap::new(alloc);
     layer_extent(
         alloc,
         scene,
@@ -93,6 +99,7 @@ fn behind_effect<E: Effect>(
         layer,
         number as usize + 1,
         tick,
+        &mut known,
     )
 }
 
@@ -117,7 +124,30 @@ fn source_extent(scene: &Scene, layer: &Layer) -> Rect
     }
 }
 
-// The extent of a layer's plane at a tick, behind so many of its effects.
+// The extent that was found behind so many effects at a tick.
+fn find_known(known: &KnownExtents, count: usize, tick: Tick) -> Option<Rect>
+    ensures { result ≡ known_at known.now count tick.0 }
+{
+    match known.get(&(count, tick.0)) {
+        Some(extent) => Some(*extent),
+        None => None,
+    }
+}
+
+// Keeps the extent behind so many effects at a tick.
+fn keep_known(
+    known: &mut KnownExtents,
+    count: usize,
+    tick: Tick,
+    extent: Rect,
+) -> Result<(), Memory>
+    ensures { OnOk result (KeepsExtent count tick.0 extent known.old known.new) }
+{
+    known.insert((count, tick.0), extent)?;
+    Ok(())
+}
+
+// The extent of a layer's plane at a tick, behind so many of its effects. What is known is not found again.
 #[cycle(extent)]
 fn layer_extent<E: Effect>(
     alloc: Global,
@@ -128,19 +158,27 @@ fn layer_extent<E: Effect>(
     layer: &Layer,
     count: usize,
     tick: Tick,
+    known: &mut KnownExtents,
 ) -> Result<Rect, Memory>
     requires uses { AreUses E.schemas scene.now.project }
     requires sound { IsCompOf scene.now.project comp.now }
     requires layer { IsLayerIn scene.now.project of comp.now layer.now }
     requires count { count ≤ length layer.now.effects }
     requires held { IsHeld (base_in (plain_of scene.now.project)) tick.0 }
-    ensures { IfOk result (IsExtentBehind ⟦<E as HasSet>⟧.set scene.now (plain_comp comp.now) (plain_layer layer.now) count tick.0) }
+    requires known { AreKnown ⟦<E as HasSet>⟧.set scene.now (plain_comp comp.now) (plain_layer layer.now) known.old }
+    ensures extent { IfOk result (IsExtentBehind ⟦<E as HasSet>⟧.set scene.now (plain_comp comp.now) (plain_layer layer.now) count tick.0) }
+    ensures known { OnOk result (AreKnown ⟦<E as HasSet>⟧.set scene.now (plain_comp comp.now) (plain_layer layer.now) known.new) }
 {
     if count == 0 {
-        Ok(source_extent(scene, layer))
-    } else {
-        effect_extent(alloc, scene, effects, of, comp, layer, count - 1, tick)
+        return Ok(source_extent(scene, layer));
     }
+    if let Some(extent) = find_known(known, count, tick) {
+        return Ok(extent);
+    }
+    let number = count - 1;
+    let extent = effect_extent(alloc, scene, effects, of, comp, layer, number, tick, known)?;
+    keep_known(known, count, tick, extent)?;
+    Ok(extent)
 }
 
 // The same, behind its effect of a number: the effect's bounds, by the extents of what it wants.
@@ -154,25 +192,29 @@ fn effect_extent<E: Effect>(
     layer: &Layer,
     number: usize,
     tick: Tick,
+    known: &mut KnownExtents,
 ) -> Result<Rect, Memory>
     requires uses { AreUses E.schemas scene.now.project }
     requires sound { IsCompOf scene.now.project comp.now }
     requires layer { IsLayerIn scene.now.project of comp.now layer.now }
     requires number { number < length layer.now.effects }
     requires held { IsHeld (base_in (plain_of scene.now.project)) tick.0 }
-    ensures { IfOk result (IsExtentBehind ⟦<E as HasSet>⟧.set scene.now (plain_comp comp.now) (plain_layer layer.now) (number + 1) tick.0) }
+    requires known { AreKnown ⟦<E as HasSet>⟧.set scene.now (plain_comp comp.now) (plain_layer layer.now) known.old }
+    ensures extent { IfOk result (IsExtentBehind ⟦<E as HasSet>⟧.set scene.now (plain_comp comp.now) (plain_layer layer.now) (number + 1) tick.0) }
+    ensures known { OnOk result (AreKnown ⟦<E as HasSet>⟧.set scene.now (plain_comp comp.now) (plain_layer layer.now) known.new) }
 {
     set_is_lawful::<E>();
     let fx = &layer.effects.as_slice()[number];
     let at = moment_of(base_of(scene), comp, tick);
     let wants = effects.list_wants(alloc, fx, at)?;
-    let extents = wanted_extents(alloc, scene, effects, of, comp, layer, number, fx, &wants)?;
+    let extents = extents_of_wants(
+        alloc, scene, effects, of, comp, layer, number, fx, &wants, known,
+    )?;
     bounds_of(alloc, effects, fx, at, &extents)
 }
 
 /// The extents of what the effect of a layer wants, in order, where it is the effect of this number. What is wanted twice is found
 /// once.
-#[cycle(extent)]
 pub fn wanted_extents<E: Effect>(
     alloc: Global,
     scene: &Scene,
@@ -193,19 +235,15 @@ pub fn wanted_extents<E: Effect>(
     ensures { IfOk result (λ extents. AllZip
         (IsWantedExtent ⟦<E as HasSet>⟧.set scene.now (plain_comp comp.now) (plain_layer layer.now) number fx.now.layers) wants.now extents.items) }
 {
-    let mut extents = Vec::new(alloc);
-    for place in 0..wants.len() {
-        let extent = next_extent(
-            alloc, scene, effects, of, comp, layer, number, fx, wants, place, &extents,
-        )?;
-        extents.push(extent)?;
-    }
-    Ok(extents)
+    let mut known = BTreeMap::new(alloc);
+    extents_of_wants(
+        alloc, scene, effects, of, comp, layer, number, fx, wants, &mut known,
+    )
 }
 
-// The extent of the want of this place, after those of the wants before it.
+// The same, where some extents are known.
 #[cycle(extent)]
-fn next_extent<E: Effect>(
+fn extents_of_wants<E: Effect>(
     alloc: Global,
     scene: &Scene,
     effects: &E,
@@ -215,48 +253,28 @@ fn next_extent<E: Effect>(
     number: usize,
     fx: &FxUse,
     wants: &[Want],
-    place: usize,
-    before: &[Rect],
-) -> Result<Rect, Memory>
+    known: &mut KnownExtents,
+) -> Result<Vec<Rect>, Memory>
     requires uses { AreUses E.schemas scene.now.project }
     requires sound { IsCompOf scene.now.project comp.now }
     requires layer { IsLayerIn scene.now.project of comp.now layer.now }
     requires number { number < length layer.now.effects }
     requires layers { All (λ index. index < length comp.now.layers) fx.now.layers }
     requires wants { All (IsWant (length fx.now.layers) (base_in (plain_of scene.now.project))) wants.now }
-    requires place { place < length wants.now }
-    requires before { AllZip
-        (IsWantedExtent ⟦<E as HasSet>⟧.set scene.now (plain_comp comp.now) (plain_layer layer.now) number fx.now.layers) (take place wants.now) before.now }
-    ensures { IfOk result (λ extent. (want : Want) → slice_get wants.now place ≡ Some want
-        → IsWantedExtent ⟦<E as HasSet>⟧.set scene.now (plain_comp comp.now) (plain_layer layer.now) number fx.now.layers want extent) }
+    requires known { AreKnown ⟦<E as HasSet>⟧.set scene.now (plain_comp comp.now) (plain_layer layer.now) known.old }
+    ensures extents { IfOk result (λ extents. AllZip
+        (IsWantedExtent ⟦<E as HasSet>⟧.set scene.now (plain_comp comp.now) (plain_layer layer.now) number fx.now.layers) wants.now extents.items) }
+    ensures known { OnOk result (AreKnown ⟦<E as HasSet>⟧.set scene.now (plain_comp comp.now) (plain_layer layer.now) known.new) }
 {
-    match same_before(wants, place) {
-        Some(earlier) => Ok(before[earlier]),
-        None => wanted_extent(
-            alloc,
-            scene,
-            effects,
-            of,
-            comp,
-            layer,
-            number,
-            fx,
-            wants[place],
-        ),
+    let mut extents = Vec::new(alloc);
+    for place in 0..wants.len() {
+        let want = wants[place];
+        let extent = wanted_extent(
+            alloc, scene, effects, of, comp, layer, number, fx, want, known,
+        )?;
+        extents.push(extent)?;
     }
-}
-
-// The place of an equal want before this one.
-fn same_before(wants: &[Want], place: usize) -> Option<usize>
-    requires { place < length wants.now }
-    ensures { IfSome result (λ earlier. (earlier < place) × (slice_get wants.now earlier ≡ slice_get wants.now place)) }
-{
-    for earlier in 0..place {
-        if wants[earlier] == wants[place] {
-            return Some(earlier);
-        }
-    }
-    None
+    Ok(extents)
 }
 
 // The extent of what the effect of a number wants: of the layer behind the effects before it, or of the source of a layer that it names.
@@ -271,6 +289,7 @@ fn wanted_extent<E: Effect>(
     number: usize,
     fx: &FxUse,
     want: Want,
+    known: &mut KnownExtents,
 ) -> Result<Rect, Memory>
     requires uses { AreUses E.schemas scene.now.project }
     requires sound { IsCompOf scene.now.project comp.now }
@@ -278,10 +297,13 @@ fn wanted_extent<E: Effect>(
     requires number { number < length layer.now.effects }
     requires layers { All (λ index. index < length comp.now.layers) fx.now.layers }
     requires want { IsWant (length fx.now.layers) (base_in (plain_of scene.now.project)) want }
-    ensures { IfOk result (IsWantedExtent ⟦<E as HasSet>⟧.set scene.now (plain_comp comp.now) (plain_layer layer.now) number fx.now.layers want) }
+    requires known { AreKnown ⟦<E as HasSet>⟧.set scene.now (plain_comp comp.now) (plain_layer layer.now) known.old }
+    ensures extent { IfOk result (IsWantedExtent ⟦<E as HasSet>⟧.set scene.now (plain_comp comp.now) (plain_layer layer.now) number fx.now.layers want) }
+    ensures known { OnOk result (AreKnown ⟦<E as HasSet>⟧.set scene.now (plain_comp comp.now) (plain_layer layer.now) known.new) }
 {
     if want.input == 0 {
-        return layer_extent(alloc, scene, effects, of, comp, layer, number, want.tick);
+        let tick = want.tick;
+        return layer_extent(alloc, scene, effects, of, comp, layer, number, tick, known);
     }
     let named = fx.layers.as_slice()[(want.input - 1) as usize];
     Ok(source_extent(scene, layer_at(scene, of, named as usize)))

@@ -10,6 +10,7 @@ use effect_api::{Draw, Value};
 
 /// What a cache keeps of a scene and an effect set: under class 0 the planes of the scene's nodes, and under the set's classes their
 /// sums. It borrows both.
+#[derive(Drop)]
 pub struct SceneJob<'a, E, const MAX: u32> {
     pub scene: &'a Scene,
     pub effects: &'a E,

@@ -1,7 +1,7 @@
 use Rattle.std.proofs.Common.{drop, map, string_bytes, subst, sym, ◌∙◌}
 use Rattle.std.specs.Prelude.{IsOkAnd}
 use Rattle.effect_api.specs.Sets.{EffectSet, Drawing}
-use Rattle.host_run.specs.Effects.{Effects}
+use Rattle.frame_span.specs.Effects.{Effects}
 use Rattle.host_run.specs.Headline.{IsRendered}
 use Rattle.host_run.specs.Run.{seen_of, seen_store}
 use Rattle.host_run.specs.Words.{words_of}

@@ -1,15 +1,15 @@
 use Rattle.std.proofs.Common.{map, string_bytes, Ok, Err, ap, refl, subst, sym, ◌∙◌}
 use Rattle.project_model.specs.Plain.{plain_of}
 use Rattle.effect_api.specs.Sets.{EffectSet, Drawing}
-use Rattle.host_run.specs.Effects.{Effects}
+use Rattle.frame_span.specs.Effects.{Effects}
 use Rattle.host_run.specs.Stages.{HasRead}
 use Rattle.host_run.proofs.Lengths.{lengths_kept}
 use Rattle.host_run.specs.Run.{Seen, SeenStore, seen_of, seen_store, HasEnded}
-use Rattle.host_run.specs.Ending.{ending_of_writing}
+use Rattle.host_run.specs.Ending.{ending_of_rendering}
 use Rattle.host_run.specs.declared.words.WordsError.TheVariants as words_error
 use Rattle.host_run.specs.Words.{words_of}
 use Rattle.host_run.proofs.Ended.{plain_is_kept, read_is_kept, ended_at_words, ended_at_project, ended_at_clips, ended_at_span, ended_well, ended_at_writing}
-use Rattle.host_run.proofs.Known.{keeps_none}
+use Rattle.frame_span.proofs.Known.{keeps_none}
 use Rattle.host_run.proofs.host.render.Goals as goal
 
 pub read_clips-requires-clause-passed : goal.read_clips-requires-clause-passed
@@ -105,8 +105,8 @@ returns-in-Err-span_of g c =
     (ended_at_span effects c.in-Ok.settings c.in-Ok-read_input.project c.in-Ok-read_clips.scene c.in-Err-span_of.ending source store sink (subst (λ schemas. HasRead schemas (Ok c.in-Ok-read_input.project) source) schemas_are c.in-Ok-read_input.ensures)
     c.in-Ok-read_clips.ensures.loaded (c.in-Err-span_of.ensures.asked effects) c.in-Ok-read_clips.ensures.kept (keeps_none sink.before) refl)
 
-pub returns-in-Ok-write_span : goal.returns-in-Ok-write_span
-returns-in-Ok-write_span g c =
+pub returns-in-Ok-render_span : goal.returns-in-Ok-render_span
+returns-in-Ok-render_span g c =
     let set : EffectSet = record {
       schemas = g.E.Effect.schemas;
       class_names = g.E.Effect.class_names;
@@ -121,11 +121,11 @@ returns-in-Ok-write_span g c =
     let schemas_are = c.as_slice-schemas.ensures.value ∙ c.in-Ok-schemas.ensures in
     let source : Seen = seen_of g.S.Source.left g.S.Source.faults c.args.source.now c.read_input.new.source in
     let store : SeenStore = seen_store g.C.ClipStore.clips g.C.ClipStore.faults c.args.clips.now c.read_clips.new.clips in
-    let sink : Seen = seen_of g.K.Sink.written g.K.Sink.faults c.args.out.now c.write_span.new.out in
+    let sink : Seen = seen_of g.K.Sink.written g.K.Sink.faults c.args.out.now c.render_span.new.out in
     subst (λ asked. HasEnded effects asked (Ok tt) source store sink) (sym c.in-Ok.ensures.settings)
     (ended_well effects c.in-Ok.settings c.in-Ok-read_input.project c.in-Ok-read_clips.scene c.in-Ok-span_of.span source store sink (subst (λ schemas. HasRead schemas (Ok c.in-Ok-read_input.project) source) schemas_are c.in-Ok-read_input.ensures)
-    c.in-Ok-read_clips.ensures.loaded (c.in-Ok-span_of.ensures.asked effects) c.in-Ok-read_clips.ensures.kept c.in-Ok-write_span.ensures.whole
-    c.in-Ok-write_span.ensures.cause.counted)
+    c.in-Ok-read_clips.ensures.loaded (c.in-Ok-span_of.ensures.asked effects) c.in-Ok-read_clips.ensures.kept c.in-Ok-render_span.ensures.whole
+    c.in-Ok-render_span.ensures.cause.counted)
 
 pub returns : goal.returns
 returns g c =
@@ -144,12 +144,12 @@ returns g c =
     let asked = words_of (map string_bytes c.args.words.now) in
     let source : Seen = seen_of g.S.Source.left g.S.Source.faults c.args.source.now c.read_input.new.source in
     let store : SeenStore = seen_store g.C.ClipStore.clips g.C.ClipStore.faults c.args.clips.now c.read_clips.new.clips in
-    let sink : Seen = seen_of g.K.Sink.written g.K.Sink.faults c.args.out.now c.write_span.new.out in
-    subst (λ e. HasEnded effects asked (Err e) source store sink) (sym c.of_writing.ensures)
-    (subst (λ a. HasEnded effects a (Err (ending_of_writing c.in-Err-write_span.error)) source store sink) (sym c.in-Ok.ensures.settings)
-    (ended_at_writing effects c.in-Ok.settings c.in-Ok-read_input.project c.in-Ok-read_clips.scene c.in-Ok-span_of.span c.in-Err-write_span.error source store sink
+    let sink : Seen = seen_of g.K.Sink.written g.K.Sink.faults c.args.out.now c.render_span.new.out in
+    subst (λ e. HasEnded effects asked (Err e) source store sink) (sym c.of_rendering.ensures)
+    (subst (λ a. HasEnded effects a (Err (ending_of_rendering c.in-Err-render_span.error)) source store sink) (sym c.in-Ok.ensures.settings)
+    (ended_at_writing effects c.in-Ok.settings c.in-Ok-read_input.project c.in-Ok-read_clips.scene c.in-Ok-span_of.span c.in-Err-render_span.error source store sink
     (subst (λ schemas. HasRead schemas (Ok c.in-Ok-read_input.project) source) schemas_are c.in-Ok-read_input.ensures) c.in-Ok-read_clips.ensures.loaded (c.in-Ok-span_of.ensures.asked effects) c.in-Ok-read_clips.ensures.kept
-    c.in-Err-write_span.ensures.front c.in-Err-write_span.ensures.cause))
+    c.in-Err-render_span.ensures.front c.in-Err-render_span.ensures.cause))
 
 pub returns-in_default : goal.returns-in_default
 returns-in_default g c =

@@ -1,6 +1,6 @@
 use Rattle.std.proofs.Common.{Ok, Err, refl}
 use Rattle.effect_api.specs.Sets.{EffectSet, Drawing}
-use Rattle.host_run.specs.Effects.{Effects}
+use Rattle.frame_span.specs.Effects.{Effects}
 use Rattle.host_run.specs.Run.{Seen, SeenStore, seen_of, seen_store}
 use Rattle.host_run.proofs.Ended.{noted_well, headline_of, answered_of}
 use Rattle.host_run.proofs.host.run.Goals as goal

@@ -1,6 +1,7 @@
 use Rattle.std.proofs.Common.{◌<◌, ◌≤◌, length, arith, rules}
 use Rattle.host_run.specs.declared.input.TheConstants.{LONGEST_TEXT}
-use Rattle.host_run.proofs.Known.{takes_after, consumes_kept, on_err}
+use Rattle.frame_span.proofs.Known.{on_err}
+use Rattle.host_run.proofs.Known.{takes_after, consumes_kept}
 use Rattle.host_run.proofs.input.read_to_end.Goals as goal
 
 pub returns-in_err-count-clause-none_lost : goal.returns-in_err-count-clause-none_lost

@@ -3,7 +3,7 @@ use Rattle.std.specs.Prelude.{codes}
 use Rattle.std.proofs.lemmas.List.{append-nil}
 use Rattle.std.proofs.lemmas.Result.{on_err_weaker}
 use Rattle.host_run.specs.Ending.{line_of}
-use Rattle.host_run.proofs.Known.{on_err, front_of, front_after, appends_more}
+use Rattle.frame_span.proofs.Known.{on_err, front_of, front_after, appends_more}
 use Rattle.host_run.proofs.notes.write_line.Goals as goal
 
 pub returns-in_err-write_whole-clause-front : goal.returns-in_err-write_whole-clause-front

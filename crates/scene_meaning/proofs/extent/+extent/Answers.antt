@@ -9,10 +9,11 @@ use Rattle.rational_time.specs.Times.{tick_of}
 use Rattle.effect_api.specs.Sets.{EffectSet}
 use Rattle.effect_api.specs.declared.moment.Moment.{Moment}
 use Rattle.scene_meaning.specs.Drawn.{moment_at}
-use Rattle.scene_meaning.specs.Extents.{IsWantedExtent}
+use Rattle.scene_meaning.specs.Extents.{IsExtentBehind, IsWantedExtent}
 use Rattle.scene_meaning.specs.Shown.{base_in}
-use Rattle.scene_meaning.proofs.Extents.{at_place, layer_here, zip_push, zip_read, zip_long, are_extents, effect_is, input_is, named_extent, source_behind}
+use Rattle.scene_meaning.proofs.Extents.{at_place, layer_here, zip_push, are_extents, effect_is, input_is, named_extent, source_behind}
 use Rattle.scene_meaning.proofs.Inside.{read_at}
+use Rattle.scene_meaning.proofs.KnownExtents.{known_is, known_more}
 use Rattle.scene_meaning.proofs.Uses.{fx_given, use_is, wants_are_wanted}
 use Rattle.scene_meaning.proofs.extent.+extent.Goals as goal
 
@@ -63,8 +64,8 @@ effect_extent-bounds_of-requires-clause-based g t c =
     c.base_of.ensures.base c.base_of.ensures.ticks c.moment_of-at.ensures.moment c.requires.held c.moment_of-at.ensures.low c.moment_of-at.ensures.high in
     given.1
 
-pub effect_extent-wanted_extents-requires : goal.effect_extent-wanted_extents-requires
-effect_extent-wanted_extents-requires g t c κs within =
+pub effect_extent-extents_of_wants-requires : goal.effect_extent-extents_of_wants-requires
+effect_extent-extents_of_wants-requires g t c κs within =
     let set : EffectSet = record {
       schemas = g.E.Effect.schemas;
       class_names = g.E.Effect.class_names;
@@ -96,11 +97,11 @@ effect_extent-bounds_of-requires-clause-extents g t c =
       need = g.E.Effect.need;
     } in
     let fx = c.index-as_slice-number.result in
-    let zip = subst (AllZip (IsWantedExtent set c.args.scene.now (plain_comp c.args.comp.now) (plain_layer c.args.layer.now) c.args.number fx.layers) c.deref.result.now) (sym c.deref-2.ensures.value) c.in_ok-extents.ensures in
+    let zip = subst (AllZip (IsWantedExtent set c.args.scene.now (plain_comp c.args.comp.now) (plain_layer c.args.layer.now) c.args.number fx.layers) c.deref.result.now) (sym c.deref-2.ensures.value) c.in_ok-extents.ensures.extents in
     are_extents set c.args.scene.now (plain_comp c.args.comp.now) (plain_layer c.args.layer.now) c.args.number fx.layers c.deref.result.now _ c.deref-2.result.now (c.deref.ensures.value ∙ c.in_ok-wants.ensures) zip
 
-pub effect_extent-returns : goal.effect_extent-returns
-effect_extent-returns g t c =
+pub effect_extent-returns-clause-extent : goal.effect_extent-returns-clause-extent
+effect_extent-returns-clause-extent g t c =
     let set : EffectSet = record {
       schemas = g.E.Effect.schemas;
       class_names = g.E.Effect.class_names;
@@ -116,14 +117,14 @@ effect_extent-returns g t c =
     let given =
     fx_given g.E.Effect.schemas c.args.scene.now.project c.args.of c.args.comp.now layer c.args.number fx c.moment_of-at.result c.base_of.result (tick_of c.base_of.result.ticks c.args.comp.now.frame) c.args.tick.0 c.requires.uses c.requires.layer found
     c.base_of.ensures.base c.base_of.ensures.ticks c.moment_of-at.ensures.moment c.requires.held c.moment_of-at.ensures.low c.moment_of-at.ensures.high in
-    let zip = subst (AllZip (IsWantedExtent set c.args.scene.now (plain_comp c.args.comp.now) (plain_layer layer) c.args.number fx.layers) c.deref.result.now) (sym c.deref-2.ensures.value) c.in_ok-extents.ensures in
+    let zip = subst (AllZip (IsWantedExtent set c.args.scene.now (plain_comp c.args.comp.now) (plain_layer layer) c.args.number fx.layers) c.deref.result.now) (sym c.deref-2.ensures.value) c.in_ok-extents.ensures.extents in
     let few : c.args.number < 8 = omega (arith, c.requires.number, layer.few_effects) in
     let moment = c.moment_of-at.ensures.moment ∙ ap (λ (b : ℕ). moment_at b (tick_of b c.args.comp.now.frame) c.args.tick.0) c.base_of.ensures.ticks in
     effect_is set c.args.scene.now c.args.comp.now layer c.args.number fx c.args.tick.0 c.moment_of-at.result c.deref.result.now c.deref-2.result.now c.bounds_of.result
     c.set_is_lawful.ensures given.0 few found moment (c.deref.ensures.value ∙ c.in_ok-wants.ensures) zip c.bounds_of.ensures
 
-pub layer_extent-returns-then-count-eq0 : goal.layer_extent-returns-then-count-eq0
-layer_extent-returns-then-count-eq0 g t c =
+pub layer_extent-returns-then-count-eq0-clause-extent : goal.layer_extent-returns-then-count-eq0-clause-extent
+layer_extent-returns-then-count-eq0-clause-extent g t c =
     let set : EffectSet = record {
       schemas = g.E.Effect.schemas;
       class_names = g.E.Effect.class_names;
@@ -134,8 +135,8 @@ layer_extent-returns-then-count-eq0 g t c =
     } in
     source_behind set c.args.scene.now (plain_comp c.args.comp.now) (plain_layer c.args.layer.now) c.args.count c.args.tick.0 c.source_extent.result c.if-count-eq0.true (c.source_extent.ensures.extent set c.args.tick.0) c.source_extent.ensures.boxed
 
-pub next_extent-bounds-before-earlier : goal.next_extent-bounds-before-earlier
-next_extent-bounds-before-earlier g t c =
+pub layer_extent-returns-in-Some-clause-extent : goal.layer_extent-returns-in-Some-clause-extent
+layer_extent-returns-in-Some-clause-extent g t c =
     let set : EffectSet = record {
       schemas = g.E.Effect.schemas;
       class_names = g.E.Effect.class_names;
@@ -144,11 +145,10 @@ next_extent-bounds-before-earlier g t c =
       bounds = g.E.Effect.bounds;
       need = g.E.Effect.need;
     } in
-    let long = zip_long (IsWantedExtent set c.args.scene.now (plain_comp c.args.comp.now) (plain_layer c.args.layer.now) c.args.number c.args.fx.now.layers) c.args.wants.now c.args.before.now c.args.place c.requires.before (omega (arith, c.requires.place)) in
-    omega (arith, long, c.in-Some.ensures.0)
+    known_is set c.args.scene.now (plain_comp c.args.comp.now) (plain_layer c.args.layer.now) c.args.known.now c.args.count c.args.tick.0 c.in-Some.extent c.requires.known c.in-Some.ensures
 
-pub next_extent-returns-in-Some : goal.next_extent-returns-in-Some
-next_extent-returns-in-Some g t c =
+pub layer_extent-returns-clause-known : goal.layer_extent-returns-clause-known
+layer_extent-returns-clause-known g t c =
     let set : EffectSet = record {
       schemas = g.E.Effect.schemas;
       class_names = g.E.Effect.class_names;
@@ -157,12 +157,14 @@ next_extent-returns-in-Some g t c =
       bounds = g.E.Effect.bounds;
       need = g.E.Effect.need;
     } in
-    λ want found.
-    zip_read (IsWantedExtent set c.args.scene.now (plain_comp c.args.comp.now) (plain_layer c.args.layer.now) c.args.number c.args.fx.now.layers) c.args.wants.now c.args.before.now c.args.place c.in-Some.earlier want _
-    c.requires.before c.in-Some.ensures.0 (c.in-Some.ensures.1 ∙ found)
+    let comp = plain_comp c.args.comp.now in
+    let layer = plain_layer c.args.layer.now in
+    let one : c.args.count - 1 + 1 ≡ c.args.count = omega (arith, c.if-count-eq0.false) in
+    let is = subst (λ (n : ℕ). IsExtentBehind set c.args.scene.now comp layer n c.args.tick.0 c.in_ok-extent.extent) one c.in_ok-extent.ensures.extent in
+    known_more set c.args.scene.now comp layer c.effect_extent.new.known c.keep_known.new.known c.args.count c.args.tick.0 c.in_ok-extent.extent c.in_ok-extent.ensures.known is c.in_ok-keep_known.ensures
 
-pub next_extent-returns-in-None : goal.next_extent-returns-in-None
-next_extent-returns-in-None g t c =
+pub wanted_extent-returns-then-want-eq0-clause-extent : goal.wanted_extent-returns-then-want-eq0-clause-extent
+wanted_extent-returns-then-want-eq0-clause-extent g t c =
     let set : EffectSet = record {
       schemas = g.E.Effect.schemas;
       class_names = g.E.Effect.class_names;
@@ -171,25 +173,13 @@ next_extent-returns-in-None g t c =
       bounds = g.E.Effect.bounds;
       need = g.E.Effect.need;
     } in
-    at_place (IsWantedExtent set c.args.scene.now (plain_comp c.args.comp.now) (plain_layer c.args.layer.now) c.args.number c.args.fx.now.layers) c.args.wants.now c.args.place _ c.wanted_extent.result c.wanted_extent.ensures
-
-pub wanted_extent-returns-then-want-eq0 : goal.wanted_extent-returns-then-want-eq0
-wanted_extent-returns-then-want-eq0 g t c =
-    let set : EffectSet = record {
-      schemas = g.E.Effect.schemas;
-      class_names = g.E.Effect.class_names;
-      wants = g.E.Effect.wants;
-      asks = g.E.Effect.asks;
-      bounds = g.E.Effect.bounds;
-      need = g.E.Effect.need;
-    } in
-    input_is set c.args.scene.now (plain_comp c.args.comp.now) (plain_layer c.args.layer.now) c.args.number c.args.fx.now.layers c.args.want c.layer_extent.result c.if-want-eq0.true c.layer_extent.ensures
+    input_is set c.args.scene.now (plain_comp c.args.comp.now) (plain_layer c.args.layer.now) c.args.number c.args.fx.now.layers c.args.want c.layer_extent.result c.if-want-eq0.true c.layer_extent.ensures.extent
 
 pub wanted_extent-layer_at-requires-clause-comp : goal.wanted_extent-layer_at-requires-clause-comp
 wanted_extent-layer_at-requires-clause-comp g t c = slice_get_within c.args.scene.now.project.comps c.args.of c.args.comp.now c.requires.layer.here
 
-pub wanted_extent-returns : goal.wanted_extent-returns
-wanted_extent-returns g t c =
+pub wanted_extent-returns-clause-extent : goal.wanted_extent-returns-clause-extent
+wanted_extent-returns-clause-extent g t c =
     let set : EffectSet = record {
       schemas = g.E.Effect.schemas;
       class_names = g.E.Effect.class_names;
@@ -207,8 +197,8 @@ wanted_extent-returns g t c =
     named_extent set c.args.scene.now (plain_comp comp) (plain_layer c.args.layer.now) (plain_layer c.layer_at.result.now) c.args.number i named c.args.fx.now.layers c.args.want c.source_extent.result one found
     (layer_here comp named c.layer_at.result.now (c.layer_at.ensures.here comp c.requires.layer.here)) (c.source_extent.ensures.extent set c.args.want.tick.0) c.source_extent.ensures.boxed
 
-pub wanted_extents-loop-place-preserved : goal.wanted_extents-loop-place-preserved
-wanted_extents-loop-place-preserved g t c =
+pub extents_of_wants-loop-place-preserved : goal.extents_of_wants-loop-place-preserved
+extents_of_wants-loop-place-preserved g t c =
     let set : EffectSet = record {
       schemas = g.E.Effect.schemas;
       class_names = g.E.Effect.class_names;
@@ -221,6 +211,9 @@ wanted_extents-loop-place-preserved g t c =
     let wants = c.args.wants.now in
     let within : c.loop-place.place < length wants = omega (arith, c.loop-place-test.true, c.loop-place.auto.place-end) in
     let one : suc c.loop-place.place ≡ c.loop-place.place + 1 = omega arith in
-    let pushed = zip_push wanted wants c.loop-place.extents.items c.loop-place.place c.in_ok-extent.extent c.loop-place.invariant within c.in_ok-extent.ensures in
-    subst (λ (n : ℕ). AllZip wanted (take n wants) c.push.new.self.items) one
-    (subst (AllZip wanted (take (suc c.loop-place.place) wants)) (sym c.in_ok-push.ensures.items) pushed)
+    let pushed = zip_push wanted wants c.loop-place.extents.items c.loop-place.place c.in_ok-extent.extent c.loop-place.invariant.extents within (at_place wanted wants c.loop-place.place _ c.in_ok-extent.extent c.in_ok-extent.ensures.extent) in
+    record {
+      extents = subst (λ (n : ℕ). AllZip wanted (take n wants) c.push.new.self.items) one
+          (subst (AllZip wanted (take (suc c.loop-place.place) wants)) (sym c.in_ok-push.ensures.items) pushed);
+      known = c.in_ok-extent.ensures.known;
+    }

@@ -1,4 +1,4 @@
-use Rattle.std.proofs.Common.{ℕ, ◌≡◌, ◌<◌, length, arith, rules}
+use Rattle.std.proofs.Common.{◌≡◌, ◌<◌, length, rules}
 use Rattle.scene_meaning.specs.Scene.{IsPremultipliedClip}
 use Rattle.scene_meaning.proofs.Lists.{all_more, all_of}
 use Rattle.scene_meaning.proofs.scene.clips_are_premultiplied.Goals as goal

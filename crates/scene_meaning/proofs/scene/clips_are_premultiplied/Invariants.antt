@@ -1,4 +1,4 @@
-use Rattle.std.proofs.Common.{◌<◌, ℕ, take}
+use Rattle.std.proofs.Common.{take}
 use Rattle.std.specs.List.{All}
 use Rattle.scene_meaning.specs.Scene.{IsPremultipliedClip}
 use Rattle.scene_meaning.proofs.scene.clips_are_premultiplied.Given as goal

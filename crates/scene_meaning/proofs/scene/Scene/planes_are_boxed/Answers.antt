@@ -1,8 +1,6 @@
 use Rattle.std.proofs.Common.{subst}
-use Rattle.project_model.specs.Bounds.{most_of}
-use Rattle.project_model.specs.Uses.{AreUses}
 use Rattle.effect_api.specs.Sets.{EffectSet, Drawing, IsLawfulDrawing}
-use Rattle.scene_meaning.specs.Planes.{IsLawfulScene, PlanesAreBoxed}
+use Rattle.scene_meaning.specs.Planes.{IsLawfulScene}
 use Rattle.scene_meaning.specs.Scene.{SceneParts, IsScene}
 use Rattle.scene_meaning.proofs.Planes.{planes_boxed}
 use Rattle.scene_meaning.proofs.scene.Scene.planes_are_boxed.Goals as goal

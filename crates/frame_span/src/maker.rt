@@ -1,0 +1,62 @@
+//! Frames of a scene, each made by a worker with a pass of the cache of its own.
+ghost use Rattle.std.specs.Prelude.{◌≡◌, ◌<◌, ◌∷◌, [], codes, Some};
+ghost use Rattle.project_model.specs.Bounds.{most_of};
+ghost use Rattle.project_model.specs.Plain.{plain_of, plain_comp};
+ghost use Rattle.project_model.specs.Uses.{AreUses};
+ghost use Rattle.compute_cache.specs.Suite.{job_of};
+ghost use Rattle.scene_meaning.specs.Output.{root_of, frame_bytes};
+ghost use Rattle.frame_span.specs.Rendered.{IsSeat};
+
+use compute_cache::{Cache, Pass};
+use effect_api::Draw;
+use frame_draw::draw_frame;
+use frame_worker::FrameMaker;
+use host_io::Memory;
+use project_model::Comp;
+use scene_meaning::{Means, Scene, SceneJob};
+use std::alloc::Global;
+use std::sync::Wait;
+
+/// Draws frames of a scene's root, which is `comp`, and gives their bytes. A seat is a pass of the cache.
+#[derive(Drop)]
+pub(crate) struct SpanMaker<'d, 'a, E: Draw<MAX>, const MAX: u32> {
+    pub(crate) alloc: Global,
+    pub(crate) scene: &'d Scene,
+    pub(crate) effects: &'d E,
+    pub(crate) comp: &'d Comp,
+    pub(crate) cache: &'d Cache<SceneJob<'a, E, MAX>>,
+}
+
+impl<'d, 'a, E: Draw<MAX> + Sync, const MAX: u32> FrameMaker for SpanMaker<'d, 'a, E, MAX> {
+    type Seat = Pass<SceneJob<'a, E, MAX>>;
+
+    type Piece = Vec<u8>;
+
+    ghost fit = { λ maker pass. IsSeat maker.cache.now pass };
+
+    // The depth is the project's, whose effects are of this set; the cache is of this scene, with the classes of planes and of the
+    // effects' sums; the root is the composition, and has the frame.
+    ghost takes = { λ maker frame. (MAX ≡ most_of maker.scene.now.project.depth) × AreUses E.schemas maker.scene.now.project
+        × ((job_of maker.cache.now).scene.now ≡ maker.scene.now) × (maker.cache.now.classes ≡ codes "plane" ∷ E.class_names)
+        × (root_of (plain_of maker.scene.now.project) ≡ Some (plain_comp maker.comp.now)) × (frame < maker.comp.now.frames) };
+
+    ghost gives = { λ maker frame bytes. bytes.items ≡ frame_bytes (⟦<E as Means<MAX>>⟧.scene maker.scene.now) (plain_comp maker.comp.now) frame };
+
+    fn make<R: Wait>(
+        &self,
+        rt: &R,
+        seat: &mut Pass<SceneJob<'a, E, MAX>>,
+        frame: u32,
+    ) -> Result<Vec<u8>, Memory> {
+        let picture = draw_frame(
+            rt,
+            self.alloc,
+            self.scene,
+            self.effects,
+            self.cache,
+            seat,
+            frame,
+        )?;
+        Ok(frame_file::into_frame_bytes(picture))
+    }
+}

@@ -1,0 +1,5 @@
+mod Asked
+mod Formed
+mod Grids
+mod Returned
+pub mod Sharing
