@@ -10,6 +10,8 @@ mod effects;
 #[cfg(test)]
 mod fx_ranks;
 #[cfg(test)]
+mod generated;
+#[cfg(test)]
 mod nested;
 #[cfg(test)]
 mod plain;

@@ -1,0 +1,5 @@
+pub mod Keys
+pub mod Made
+pub mod Params
+pub mod Scales
+pub mod Several

@@ -1,0 +1,13 @@
+//! Laws over the definitions, each the contract of a function that does nothing.
+
+ghost use Rattle.scene_gen.specs.Laws.{BaseIsCommon, WorkedDraws};
+
+/// The first draws of the numbers 0 and 1, worked by hand.
+pub fn worked_draws()
+    ensures { WorkedDraws }
+{}
+
+/// The base of every generated project is the least common multiple of its scales.
+pub fn base_is_common()
+    ensures { BaseIsCommon }
+{}
