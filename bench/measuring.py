@@ -14,6 +14,9 @@ PROGRAM = TOP / "tools" / "program"
 
 RUNS = 3
 
+# The plain programs are on one thread, and so the host is measured on one.
+ONE_WORKER = ["--workers", "1"]
+
 
 class Use(NamedTuple):
     """What a run used: nanoseconds of a processor, and bytes of memory at its peak."""
@@ -39,12 +42,15 @@ def write_file(command, project, path, folder):
         subprocess.run(command, stdin=text, stdout=out, cwd=folder, check=True)
 
 
-def are_files_equal(host, plain, project, folder):
-    paths = [folder / "host.afr", folder / "plain.afr"]
-    for command, path in zip([host, plain], paths):
-        write_file(command, project, path, folder)
-    equal = filecmp.cmp(*paths, shallow=False)
-    for path in paths:
+def are_files_equal(commands, project, folder):
+    """Whether all commands write what the first one does."""
+    first, other = folder / "first.afr", folder / "other.afr"
+    write_file(commands[0], project, first, folder)
+    equal = True
+    for command in commands[1:]:
+        write_file(command, project, other, folder)
+        equal = equal and filecmp.cmp(first, other, shallow=False)
+    for path in (first, other):
         path.unlink()
     return equal
 
@@ -60,12 +66,10 @@ def best(uses):
     return Use(min(use.time for use in uses), max(use.peak for use in uses))
 
 
-def measured(measure, host, plain, project, folder):
-    """What the host and the plain program use, run in turn."""
-    pairs = [
-        (run_once(measure, host, project, folder), run_once(measure, plain, project, folder)) for _ in range(RUNS)
-    ]
-    return tuple(best(uses) for uses in zip(*pairs))
+def measured(measure, commands, project, folder):
+    """What each command uses: they run in turn."""
+    rounds = [[run_once(measure, command, project, folder) for command in commands] for _ in range(RUNS)]
+    return [best(uses) for uses in zip(*rounds)]
 
 
 def run(name, bench):

@@ -7,28 +7,13 @@
 //! A pixel of 8 bits a channel is one number of 32 bits, of which two channels are multiplied at a time. One of 16 bits is
 //! four numbers, whose bytes are exchanged as a frame is written.
 
-use std::env;
+mod afr;
+mod over;
+
+use afr::{first, number, Format};
+use over::over;
 use std::io::{self, Write};
 use std::process::ExitCode;
-
-struct Format {
-    width: u32,
-    height: u32,
-    value: u32,
-    scale: u32,
-    frames: u32,
-    depth: u8,
-}
-
-impl Format {
-    fn pixels(&self) -> usize {
-        self.width as usize * self.height as usize
-    }
-}
-
-fn number(text: &str) -> Result<u32, String> {
-    text.parse().map_err(|_| format!("no number: {text}"))
-}
 
 /// Alpha, red, green, blue.
 fn colour(word: &str) -> Result<[u16; 4], String> {
@@ -39,17 +24,10 @@ fn colour(word: &str) -> Result<[u16; 4], String> {
     }
 }
 
-/// Two channels of a pixel times the same number up to 255, each divided by 255, a half up.
-fn share(pair: u32, part: u32) -> u32 {
-    let product = pair * part + 0x0080_0080;
-    ((product + ((product >> 8) & 0x00ff_00ff)) >> 8) & 0x00ff_00ff
-}
-
 fn lay_8([a, r, g, b]: [u16; 4], frame: &mut [u32]) {
     let source = u32::from_le_bytes([a, r, g, b].map(|channel| channel as u8));
-    let part = 255 - u32::from(a);
     for below in frame {
-        *below = source + (share(*below & 0x00ff_00ff, part) | (share((*below >> 8) & 0x00ff_00ff, part) << 8));
+        *below = over(source, *below);
     }
 }
 
@@ -60,17 +38,6 @@ fn lay_16(source: [u16; 4], frame: &mut [[u16; 4]]) {
             *d = s + ((u32::from(*d) * part + 16384) >> 15) as u16;
         }
     }
-}
-
-fn write_header(out: &mut impl Write, format: &Format) -> io::Result<()> {
-    out.write_all(b"AFR1")?;
-    out.write_all(&format.width.to_be_bytes())?;
-    out.write_all(&format.height.to_be_bytes())?;
-    out.write_all(&[format.depth])?;
-    out.write_all(&format.value.to_be_bytes())?;
-    out.write_all(&format.scale.to_be_bytes())?;
-    out.write_all(&0u32.to_be_bytes())?;
-    out.write_all(&format.frames.to_be_bytes())
 }
 
 fn write_8(out: &mut impl Write, format: &Format, layers: &[[u16; 4]]) -> io::Result<()> {
@@ -106,20 +73,12 @@ fn write_16(out: &mut impl Write, format: &Format, layers: &[[u16; 4]]) -> io::R
 }
 
 fn draw(words: &[String]) -> Result<(), String> {
-    let [width, height, value, scale, frames, depth, layers @ ..] = words else {
-        return Err("too few words".to_string());
-    };
-    let format = Format {
-        width: number(width)?,
-        height: number(height)?,
-        value: number(value)?,
-        scale: number(scale)?,
-        frames: number(frames)?,
-        depth: number(depth)? as u8,
-    };
+    let (format, words) = Format::read(words)?;
+    let ([depth], layers) = first(words)?;
+    let depth: u8 = number(depth)?;
     let layers = layers.iter().map(|word| colour(word)).collect::<Result<Vec<_>, _>>()?;
     let mut out = io::stdout().lock();
-    let written = write_header(&mut out, &format).and_then(|()| match format.depth {
+    let written = out.write_all(&format.header(depth)).and_then(|()| match depth {
         8 => write_8(&mut out, &format, &layers),
         _ => write_16(&mut out, &format, &layers),
     });
@@ -127,12 +86,5 @@ fn draw(words: &[String]) -> Result<(), String> {
 }
 
 fn main() -> ExitCode {
-    let words: Vec<String> = env::args().skip(1).collect();
-    match draw(&words) {
-        Ok(()) => ExitCode::SUCCESS,
-        Err(error) => {
-            eprintln!("solids: {error}");
-            ExitCode::FAILURE
-        }
-    }
+    afr::run("solids", draw)
 }

@@ -5,21 +5,14 @@
 //!
 //! Means go by running sums: what a window has costs the same for every radius. Only what the frame shows is drawn.
 
-use std::env;
+mod afr;
+
+use afr::{first, number, Format, HEADER};
 use std::fs;
 use std::io::{self, Write};
 use std::process::ExitCode;
 
-const HEADER: usize = 29;
 const WHOLE: u32 = 10000;
-
-struct Format {
-    width: usize,
-    height: usize,
-    value: u32,
-    scale: u32,
-    frames: usize,
-}
 
 /// What a channel is kept as.
 trait Channel: Copy + Into<u32> {
@@ -251,51 +244,28 @@ fn pack<C: Channel>(pixels: &[Pixel<C>], bytes: &mut [u8]) {
     }
 }
 
-fn header(format: &Format, depth: u8) -> Vec<u8> {
-    let mut bytes = b"AFR1".to_vec();
-    bytes.extend((format.width as u32).to_be_bytes());
-    bytes.extend((format.height as u32).to_be_bytes());
-    bytes.push(depth);
-    for number in [format.value, format.scale, 0, format.frames as u32] {
-        bytes.extend(number.to_be_bytes());
-    }
-    bytes
-}
-
 fn draw<C: Channel>(format: &Format, clip: &str, effect: &str, numbers: &[i64]) -> Result<(), String> {
-    let count = format.width * format.height;
+    let (width, height, count) = (format.width as usize, format.height as usize, format.pixels());
     let clip = fs::read(clip).map_err(|error| format!("{clip}: {error}"))?;
-    if clip.len() != HEADER + format.frames * count * 4 * C::BYTES {
+    if clip.len() != HEADER + format.frames as usize * count * 4 * C::BYTES {
         return Err(format!("a clip of {} bytes", clip.len()));
     }
     let mut out = io::stdout().lock();
-    out.write_all(&header(format, 8 * C::BYTES as u8)).map_err(|error| error.to_string())?;
+    out.write_all(&format.header(8 * C::BYTES as u8)).map_err(|error| error.to_string())?;
     let (mut from, mut into) = (vec![[C::of(0); 4]; count], vec![[C::of(0); 4]; count]);
     let mut bytes = vec![0; count * 4 * C::BYTES];
     for picture in clip[HEADER..].chunks_exact(bytes.len()) {
         unpack(picture, &mut from)?;
-        apply(effect, numbers, &Picture { width: format.width, height: format.height, pixels: &from }, &mut into)?;
+        apply(effect, numbers, &Picture { width, height, pixels: &from }, &mut into)?;
         pack(&into, &mut bytes);
         out.write_all(&bytes).map_err(|error| error.to_string())?;
     }
     out.flush().map_err(|error| error.to_string())
 }
 
-fn number<T: std::str::FromStr>(text: &str) -> Result<T, String> {
-    text.parse().map_err(|_| format!("no number: {text}"))
-}
-
 fn run(words: &[String]) -> Result<(), String> {
-    let [width, height, value, scale, frames, depth, clip, effect, numbers @ ..] = words else {
-        return Err("too few words".to_string());
-    };
-    let format = Format {
-        width: number(width)?,
-        height: number(height)?,
-        value: number(value)?,
-        scale: number(scale)?,
-        frames: number(frames)?,
-    };
+    let (format, words) = Format::read(words)?;
+    let ([depth, clip, effect], numbers) = first(words)?;
     let numbers = numbers.iter().map(|word| number(word)).collect::<Result<Vec<i64>, _>>()?;
     match depth.as_str() {
         "8" => draw::<u8>(&format, clip, effect, &numbers),
@@ -305,12 +275,5 @@ fn run(words: &[String]) -> Result<(), String> {
 }
 
 fn main() -> ExitCode {
-    let words: Vec<String> = env::args().skip(1).collect();
-    match run(&words) {
-        Ok(()) => ExitCode::SUCCESS,
-        Err(error) => {
-            eprintln!("spatial: {error}");
-            ExitCode::FAILURE
-        }
-    }
+    afr::run("spatial", run)
 }
