@@ -7,15 +7,12 @@ between them. Another composition, which is not seen, is the map of Displace: it
 redder the picture is taken from further to the right.
 """
 
-import json
 import math
-import subprocess
 import sys
-from pathlib import Path
 
-TOP = Path(__file__).resolve().parent.parent
-PROJECT = TOP / "examples" / "effects.json"
-PICTURE = TOP / "docs" / "effects.png"
+sys.dont_write_bytecode = True
+
+from drawn import composition, run
 
 SIZE = (128, 88)
 HORIZON = 56
@@ -101,10 +98,6 @@ def tiles():
     return [*found, layer({"comp": 1}, out=[0, 1])]
 
 
-def composition(width, height, layers):
-    return {"width": width, "height": height, "frame": [1, 24], "frames": 1, "layers": layers}
-
-
 def project():
     """The topmost layer first."""
     picture = [*cuts(), *lighthouse(), *sun(), *boat(), *sky(), *sea()]
@@ -113,26 +106,5 @@ def project():
     return {"version": 1, "depth": 8, "root": 2, "comps": comps}
 
 
-def comp_text(comp):
-    head = {name: value for name, value in comp.items() if name != "layers"}
-    layers = ",\n".join("    " + json.dumps(it) for it in comp["layers"])
-    return f'  {json.dumps(head)[:-1]}, "layers": [\n{layers}\n  ]}}'
-
-
-def text(value):
-    """The project's text, a layer a line."""
-    head = json.dumps({**value, "comps": []})[:-2]
-    return head + "\n" + ",\n".join(comp_text(it) for it in value["comps"]) + "\n]}\n"
-
-
-def main():
-    if sys.argv[1:] == ["--project"]:
-        print(text(project()), end="")
-        return
-    PROJECT.write_text(text(project()))
-    frames = subprocess.run([TOP / "afhost"], input=PROJECT.read_bytes(), stdout=subprocess.PIPE, check=True).stdout
-    subprocess.run([TOP / "tools" / "afr", "png", "-", "--out", PICTURE], input=frames, check=True)
-
-
 if __name__ == "__main__":
-    main()
+    run("effects", project())

@@ -10,14 +10,11 @@ tiles of stencils what acts is a white solid over the whole frame, which leaves 
 for bar, what the bar would take away: as an inverted matte, a bar of what the bar leaves to white.
 """
 
-import json
-import subprocess
 import sys
-from pathlib import Path
 
-TOP = Path(__file__).resolve().parent.parent
-PROJECT = TOP / "examples" / "modes.json"
-PICTURE = TOP / "docs" / "modes.png"
+sys.dont_write_bytecode = True
+
+from drawn import composition, run
 
 MODES = [
     *["Normal", "Multiply", "Screen", "Darken", "Lighten", "Difference", "Exclusion"],
@@ -117,26 +114,8 @@ def project():
             layers += stencil(number, mode)
     for row in range(ROWS):
         layers += bands(row)
-    comp = {"width": WIDTH, "height": HEIGHT, "frame": [1, 24], "frames": 1, "layers": layers}
-    return {"version": 1, "depth": 8, "root": 0, "comps": [comp]}
-
-
-def text(value):
-    """The project's text, a layer a line."""
-    comp = dict(value["comps"][0])
-    layers = ",\n".join("    " + json.dumps(layer) for layer in comp.pop("layers"))
-    head = json.dumps({**value, "comps": []})[:-2]
-    return f'{head}\n  {json.dumps(comp)[:-1]}, "layers": [\n{layers}\n  ]}}\n]}}\n'
-
-
-def main():
-    if sys.argv[1:] == ["--project"]:
-        print(text(project()), end="")
-        return
-    PROJECT.write_text(text(project()))
-    frames = subprocess.run([TOP / "afhost"], input=PROJECT.read_bytes(), stdout=subprocess.PIPE, check=True).stdout
-    subprocess.run([TOP / "tools" / "afr", "png", "-", "--out", PICTURE], input=frames, check=True)
+    return {"version": 1, "depth": 8, "root": 0, "comps": [composition(WIDTH, HEIGHT, layers)]}
 
 
 if __name__ == "__main__":
-    main()
+    run("modes", project())

@@ -22,7 +22,9 @@ def tiles(name, corners, width, height):
 
 
 class Gallery:
-    """A picture of tiles that a script makes, of the example that it writes."""
+    """A picture of tiles that a script makes, of the example that it writes. One of so many points differs between two tiles at least."""
+
+    differing = 10
 
     def test_the_script_writes_the_example(self):
         script, example = TOP / "examples" / f"{self.name}.py", TOP / "examples" / f"{self.name}.json"
@@ -37,9 +39,9 @@ class Gallery:
 
     def test_each_tile_can_be_told_from_the_others(self):
         for one, other in itertools.combinations(self.tiles(), 2):
-            # A tenth of the points differs by a sixth of white in some channel.
+            # By a sixth of white in some channel.
             differing = sum(max(abs(a - b) for a, b in zip(*pair)) >= 43 for pair in zip(one, other))
-            self.assertGreaterEqual(10 * differing, len(one))
+            self.assertGreaterEqual(self.differing * differing, len(one))
 
     def test_the_picture_is_small(self):
         self.assertLess((TOP / "docs" / f"{self.name}.png").stat().st_size, 100_000)
@@ -58,6 +60,16 @@ class Effects(Gallery, Case):
     def tiles(self):
         """Each with half of the gaps round it, in which blur and shadow lie."""
         return tiles(self.name, [(14 + column * 156, 14 + row * 116) for row in range(3) for column in range(4)], 156, 116)
+
+
+class Time(Gallery, Case):
+    name = "time"
+    # What moves is small.
+    differing = 100
+
+    def tiles(self):
+        """The strips."""
+        return tiles(self.name, [(24 + block * 612, 44 + row * 124) for block in range(2) for row in range(5)], 588, 80)
 
 
 class Lanterns(Case):

@@ -34,6 +34,13 @@ RANGES = {
     "Mosaic": [(1, 1024)],
     "DropShadow": [REACH, REACH, *[SHARE] * 4],
     "Displace": [REACH] * 2,
+    "Echo": [(1, 8), (1, 100), SHARE],
+    "PosterizeTime": [(1, 1000)],
+    "FrameDifference": [(1, 100)],
+    "TimeMean": [(0, 4)],
+    "AutoLevels": [(0, 4999)],
+    "Equalize": [],
+    "Deflicker": [(0, 4)],
 }
 
 
