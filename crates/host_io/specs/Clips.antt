@@ -9,6 +9,10 @@ use Rattle.std.proofs.Common.{String, Vec, Global}
 abbrev pub ClipMap : Type 0
 ClipMap = List ℕ → Option (List ℕ)
 
+-- of a store that does not tell them
+abbrev pub untold : Option ClipMap
+untold = None
+
 -- the length of what is under a name, where it is there
 abbrev pub length_at : ClipMap → List ℕ → Option ℕ
 length_at clips name = option_map length (clips name)

@@ -1,5 +1,6 @@
 -- What the sources and sinks over memory hold.
-use Rattle.std.specs.Prelude.{ℕ, ◌+◌, List, min}
+use Rattle.std.specs.Prelude.{ℕ, ◌+◌, ◌≤◌, List, length, min}
+use Rattle.std.specs.List.{All}
 use Rattle.host_io.specs.Cause.{last_count}
 
 -- a source over memory: the bytes left, the most that a call moves, the calls that fail, the calls and faults so far
@@ -42,3 +43,12 @@ pub record MemClipsState : Type 0 where
 -- clips in memory whose calls never fail
 pub record NeverClipsState : Type 0 where
   pub clips : List (List ℕ × List ℕ)
+
+-- clips in memory, each of which is said to be longer by so many bytes
+pub record LyingClipsState : Type 0 where
+  pub clips : List (List ℕ × List ℕ)
+  pub more : ℕ
+
+-- each length with these is a u64
+abbrev pub HasRoom : ℕ → List (List ℕ × List ℕ) → Type 0
+HasRoom more clips = All (λ entry. length entry.1 + more ≤ last_count) clips

@@ -45,7 +45,7 @@ fn find<'a>(clips: &'a BTreeMap<String, Vec<u8>>, name: &str) -> Option<&'a [u8]
 }
 
 // How many bytes are under the name.
-fn length_in(clips: &BTreeMap<String, Vec<u8>>, name: &str) -> Option<u64>
+pub(crate) fn length_in(clips: &BTreeMap<String, Vec<u8>>, name: &str) -> Option<u64>
     ensures { result ≡ length_at (found_in (entries_of clips.now)) name.now }
 {
     match find(clips, name) {
@@ -55,7 +55,12 @@ fn length_in(clips: &BTreeMap<String, Vec<u8>>, name: &str) -> Option<u64>
 }
 
 // Copies bytes under the name from a place on, as many as there are or have room, and answers how many.
-fn copy_from(clips: &BTreeMap<String, Vec<u8>>, name: &str, place: u64, into: &mut [u8]) -> usize
+pub(crate) fn copy_from(
+    clips: &BTreeMap<String, Vec<u8>>,
+    name: &str,
+    place: u64,
+    into: &mut [u8],
+) -> usize
     ensures count { result ≡ min (length into.old) (length (drop place (bytes_at (found_in (entries_of clips.now)) name.now))) }
     ensures copied { take result into.new ≡ take result (drop place (bytes_at (found_in (entries_of clips.now)) name.now)) }
 {

@@ -95,7 +95,7 @@ impl<W: Write> Writing<W> {
     }
 }
 
-impl<W: Write> Sink for Writing<W> {
+impl<W: Write + Send> Sink for Writing<W> {
     ghost written = { λ s. W.contents s.writer };
 
     ghost faults = { λ s. s.faults };
