@@ -368,7 +368,17 @@ fn stores_that_do_not_tell_are_judged_by_what_they_give(rt: HostRuntime) -> Resu
         (37, 37, 37, None),
         (37, 36, 37, Some(ClipError::Short { have: 36, want: 37 })),
         (36, 37, 36, Some(ClipError::Short { have: 36, want: 37 })),
-        (40, 37, 38, Some(ClipError::Short { have: 37, want: 37 })),
+        (40, 36, 38, Some(ClipError::Short { have: 36, want: 37 })),
+        (40, 37, 38, Some(ClipError::Short { have: 37, want: 40 })),
+        (
+            u64::MAX,
+            37,
+            38,
+            Some(ClipError::Short {
+                have: 37,
+                want: u64::MAX,
+            }),
+        ),
         (40, 28, 38, Some(ClipError::Short { have: 28, want: 29 })),
         (40, 40, 38, Some(ClipError::Trailing { extra: 3 })),
     ] {

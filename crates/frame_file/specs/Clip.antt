@@ -106,11 +106,15 @@ judged_pixels declared pixels (Some i) = Err (bad_pixel declared i)
 abbrev pub is_short : ℕ → ℕ → ℕ → Bool
 is_short there count want = nat_lt count want || (nat_lt count there && nat_le count want)
 
+-- how many bytes short ones want: those that are declared, or, where these are all there, those that were said
+abbrev pub wanted : ℕ → ℕ → ℕ → ℕ
+wanted there have declared = if nat_lt have declared then declared else there
+
 abbrev pub judged_body : ℕ → List ℕ → ClipUse → Option ℕ → Result Pictures ClipError
 judged_body there bytes declared (Some field) = Err (BadHeader field)
 judged_body there bytes declared None =
     let pixels = pixels_of declared.depth (drop header_length bytes) in
-    if is_short there (length bytes) (clip_length declared) then Err (Short (length bytes) (clip_length declared))
+    if is_short there (length bytes) (clip_length declared) then Err (Short (length bytes) (wanted there (length bytes) (clip_length declared)))
     else if nat_lt (clip_length declared) there then Err (Trailing (there - clip_length declared))
     else judged_pixels declared pixels (first_bad (most_of declared.depth) pixels)
 

@@ -10,7 +10,8 @@ pub enum ClipError {
     /// A field is not the declaration's: 0 width, 1 height, 2 depth, 3 value, 4 scale, 5 count.
     #[error("field {field} of the header differs")]
     BadHeader { field: u8 },
-    /// There are `have` bytes, and `want` are needed: 29 for a header, or those that are declared.
+    /// There are `have` bytes, and `want` are needed: 29 for a header, those that are declared, or, where these are all
+    /// there, those that the store said.
     #[error("short: {have} bytes of {want}")]
     Short { have: u64, want: u64 },
     /// A pixel is not premultiplied: the first, by its picture and its place in the picture, both from 0.

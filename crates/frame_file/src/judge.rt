@@ -2,7 +2,7 @@
 ghost use Rattle.std.specs.Prelude.{◌≡◌, ◌+◌, ◌*◌, ◌^◌, ◌<◌, ◌≤◌, length, drop, None, Ok, Err, Some, OnOk, IfErr, IfSome};
 ghost use Rattle.project_model.specs.Bounds.{most_of, is_colour, header_length};
 ghost use Rattle.project_model.specs.Clip.{IsReadable, pixel_size, pixel_count, clip_length};
-ghost use Rattle.frame_file.specs.Clip.{pictures_of, pixels_of, pixels_of_8, pixels_of_16, first_bad, judged, judged_body, judged_pixels, differs, header_fault, bad_pixel, channel_of};
+ghost use Rattle.frame_file.specs.Clip.{pictures_of, pixels_of, pixels_of_8, pixels_of_16, first_bad, judged, judged_body, judged_pixels, differs, header_fault, bad_pixel, channel_of, wanted};
 
 use crate::ClipError;
 use project_model::{CLIP_HEADER_LENGTH, ClipUse};
@@ -49,7 +49,10 @@ fn judge_body(declared: &ClipUse, bytes: &[u8], there: u64) -> Result<(), ClipEr
     let have = bytes.len() as u64;
     let want = declared.file_length();
     if have < want || (have < there && have <= want) {
-        return Err(ClipError::Short { have, want });
+        return Err(ClipError::Short {
+            have,
+            want: wanted(there, have, want),
+        });
     }
     if want < there {
         return Err(ClipError::Trailing {
@@ -57,6 +60,13 @@ fn judge_body(declared: &ClipUse, bytes: &[u8], there: u64) -> Result<(), ClipEr
         });
     }
     judge_pixels(declared, &bytes[HEADER_LENGTH..])
+}
+
+// How many bytes short ones want: those that are declared, or, where these are all there, those that were said.
+fn wanted(there: u64, have: u64, declared: u64) -> u64
+    ensures { result ≡ wanted there have declared }
+{
+    if have < declared { declared } else { there }
 }
 
 // The same of the bytes behind the header, which are as many as declared.

@@ -23,7 +23,8 @@ const PIECE: usize = 65_536;
 /// - `Fault`: the store failed at that clip, and counted it;
 /// - `Missing`: no file has that clip's name;
 /// - `Refused`: the bytes of its file are refused, as `read_clip` does it. Where the store ends before the length that it
-///   said, the clip is `Short` by what was handed out.
+///   said, the clip is `Short` by what was handed out: of the declared bytes, or, where these are all there, of those that
+///   were said.
 ///
 /// Each clip that is loaded has the sides, the depth and as many pictures as its declaration says. The numbers of each
 /// declaration are those that a project may have.

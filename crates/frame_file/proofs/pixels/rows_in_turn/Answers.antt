@@ -5,7 +5,7 @@ use Rattle.geom_rect.specs.declared.rect.Rect.{Rect}
 use Rattle.geom_rect.specs.Rect.{count_between}
 use Rattle.frame_file.specs.Afr.{world_row_bytes}
 use Rattle.frame_file.proofs.Rows.{rows_to, rows_more}
-use Rattle.frame_file.proofs.pixels.frame_bytes.Goals as goal
+use Rattle.frame_file.proofs.pixels.rows_in_turn.Goals as goal
 
 pub push_row-requires : goal.push_row-requires
 push_row-requires g c =

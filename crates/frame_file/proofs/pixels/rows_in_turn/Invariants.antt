@@ -1,7 +1,7 @@
 use Rattle.std.proofs.Common.{◌≡◌}
 use Rattle.frame_file.specs.Afr.{world_row_bytes}
 use Rattle.frame_file.proofs.Rows.{rows_to}
-use Rattle.frame_file.proofs.pixels.frame_bytes.Given as goal
+use Rattle.frame_file.proofs.pixels.rows_in_turn.Given as goal
 
 -- the rows above
 abbrev pub invariant-loop-k : goal.invariant-loop-k
