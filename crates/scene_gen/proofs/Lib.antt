@@ -1,3 +1,4 @@
+pub mod Breaches
 pub mod Keys
 pub mod Made
 pub mod Params

@@ -10,5 +10,5 @@ mod project;
 mod streams;
 
 pub use kinds::{KIND_COUNT, ValueRange, layers_of, ranges_of, unit_of};
-pub use laws::{base_is_common, worked_draws};
+pub use laws::{base_is_common, generated_frames, worked_draws};
 pub use project::project_of_number;

@@ -1,8 +1,11 @@
-ghost use Rattle.std.specs.Prelude.{◌≡◌, IfOk, IsTrue};
+ghost use Rattle.std.specs.Prelude.{◌≡◌, List, IfOk, IsTrue};
 ghost use Rattle.std.specs.List.{All};
 ghost use Rattle.project_model.specs.Bounds.{is_bit_depth};
+ghost use Rattle.project_model.specs.Broken.{breach_of};
+ghost use Rattle.project_model.specs.Checked.{breach_in};
 ghost use Rattle.project_model.specs.Plain.{plain_of};
 ghost use Rattle.project_model.specs.Ready.{IsBasedComp};
+ghost use Rattle.project_model.specs.declared.effect.EffectSchema.{EffectSchema};
 ghost use Rattle.scene_gen.specs.Generated.{drawn_depth, generated};
 
 use crate::draws::Generator;
@@ -13,9 +16,20 @@ use rational_time::Time;
 use std::alloc::Global;
 
 /// The project that is drawn from a number: a composition of 8 layers, of which two show another one of 4 layers, with solids, modes,
-/// mattes, keyframes and stock effects. Only want of memory is an error. This project's own.
-#[tactic(auto, unfolding(crate::specs::Generated::generated))]
+/// mattes, keyframes and stock effects. Only want of memory is an error. The first rule that it breaks, for any set of effects, is the
+/// first one that its numbers break. This project's own.
 pub fn project_of_number(alloc: Global, number: u32) -> Result<Project, Memory>
+    ensures project { IfOk result (λ p. plain_of p ≡ generated number) }
+    ensures base { IfOk result (λ p. p.base.ticks ≡ 30000) }
+    ensures based { IfOk result (λ p. All (IsBasedComp 30000) p.comps) }
+    ensures breach { IfOk result (λ p. (schemas : List EffectSchema) → breach_in schemas p ≡ breach_of schemas (generated number)) }
+{
+    drawn_project(alloc, number)
+}
+
+// The project, draw by draw.
+#[tactic(auto, unfolding(crate::specs::Generated::generated))]
+fn drawn_project(alloc: Global, number: u32) -> Result<Project, Memory>
     ensures project { IfOk result (λ p. plain_of p ≡ generated number) }
     ensures base { IfOk result (λ p. p.base.ticks ≡ 30000) }
     ensures based { IfOk result (λ p. All (IsBasedComp 30000) p.comps) }
