@@ -1,0 +1,5 @@
+pub mod AllRead
+pub mod Flags
+pub mod Forms
+pub mod Said
+pub mod Walked
