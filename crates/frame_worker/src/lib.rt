@@ -1,4 +1,4 @@
-//! Frames drawn side by side: one seat a worker, and each worker on a thread.
+//! Frames drawn side by side: one seat a worker, and each worker on a thread, which claims one frame after another.
 #![tactic(auto)]
 
 mod jobs;

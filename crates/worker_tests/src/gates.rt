@@ -4,28 +4,35 @@ use std::hint;
 use std::sync::atomic::{AtomicU64, Ordering};
 use std::sync::{Mutex, Wait};
 
-// How often the worker of the frame looks for another one.
+// How often the worker of the frame looks for the others.
 const LOOKS: u32 = 50_000_000;
 
-/// Holds a frame until another one is drawn, for some while, and notes whether it saw that one drawn.
+/// Holds a frame until so many others are drawn, for some while, and notes whether it saw them drawn.
 #[derive(Drop)]
 pub struct HeldFrame {
     held: u32,
-    other: AtomicU64,
+    awaited: u64,
+    others: AtomicU64,
     saw: AtomicU64,
 }
 
 impl HeldFrame {
-    /// Holds this frame. No frame is drawn.
+    /// Holds this frame until another one is drawn. No frame is drawn.
     pub fn new(held: u32) -> HeldFrame {
+        HeldFrame::until(held, 1)
+    }
+
+    /// Holds this frame until so many others are drawn. No frame is drawn.
+    pub fn until(held: u32, awaited: u64) -> HeldFrame {
         HeldFrame {
             held,
-            other: AtomicU64::new(0),
+            awaited,
+            others: AtomicU64::new(0),
             saw: AtomicU64::new(0),
         }
     }
 
-    /// Whether the frame was held while another one was drawn.
+    /// Whether the frame was held while the others were drawn.
     pub fn saw_another(&self) -> bool {
         self.saw.load(Ordering::SeqCst) == 1
     }
@@ -34,11 +41,11 @@ impl HeldFrame {
 impl Gate for HeldFrame {
     fn drawn(&self, frame: u32) {
         if frame != self.held {
-            self.other.store(1, Ordering::SeqCst);
+            self.others.fetch_add(1, Ordering::SeqCst);
             return;
         }
         for _ in 0..LOOKS {
-            if self.other.load(Ordering::SeqCst) == 1 {
+            if self.others.load(Ordering::SeqCst) >= self.awaited {
                 self.saw.store(1, Ordering::SeqCst);
                 return;
             }

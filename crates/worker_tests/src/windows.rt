@@ -47,7 +47,6 @@ fn window<R: Threads + Wait + Sync, G: Gate>(
     requires some { 0 < vec_len seats.old }
     requires fit { All (λ seat. seat.owner ≡ maker.now.owner) seats.old.items }
     requires last { first + count < 1000 }
-    requires enough { count ≤ vec_len seats.old }
     ensures seats { vec_len seats.new ≡ vec_len seats.old }
     ensures fit { All (λ seat. seat.owner ≡ maker.now.owner) seats.new.items }
 {
@@ -66,15 +65,21 @@ fn are_from(pieces: &[Piece<u32>], first: u32) -> bool {
     true
 }
 
-// How many seats made so many frames.
-fn count_made(seats: &[Counter], made: u32) -> usize {
-    seats
-        .iter()
-        .filter(|seat| seat.owner == OWNER && seat.made == made)
-        .count()
+// How many frames all seats made.
+fn made_by_all(seats: &[Counter]) -> u32 {
+    let mut made = 0u32;
+    for seat in seats {
+        made = made.saturating_add(seat.made);
+    }
+    made
 }
 
-// Whether a window has its frames, and each was made with a seat of its own.
+// Whether some seat made so many frames.
+fn some_made(seats: &[Counter], made: u32) -> bool {
+    seats.iter().any(|seat| seat.made == made)
+}
+
+// Whether a window has its frames in order, each made once, and the seats are back.
 fn is_made<R: Threads + Wait + Sync>(
     rt: &R,
     alloc: Global,
@@ -84,17 +89,14 @@ fn is_made<R: Threads + Wait + Sync>(
 ) -> Result<bool, Memory>
     requires some { 0 < seats }
     requires last { first + count < 1000 }
-    requires enough { count ≤ seats }
 {
     let mut rows = seated(alloc, seats)?;
     let pieces = window(rt, alloc, &maker(None), &mut rows, first, count, &NoGate)?;
-    let frames = count as usize;
     Ok(
-        pieces.len() == frames
+        pieces.len() == count as usize
             && are_from(&pieces, first)
             && rows.len() == seats
-            && count_made(&rows, 1) == frames
-            && count_made(&rows, 0) == seats - frames,
+            && made_by_all(&rows) == count,
     )
 }
 
@@ -111,7 +113,43 @@ fn windows_have_their_frames(rt: HostRuntime) -> Result<(), Fail> {
     Ok(())
 }
 
-// There is no memory for the second of four frames: nothing is handed out, and no seat is lost.
+// More frames than there are seats.
+#[test]
+fn windows_have_more_frames_than_seats(rt: HostRuntime) -> Result<(), Fail> {
+    assert!(rt; is_made(&rt, rt.alloc(), 1, 4, 7)?);
+    assert!(rt; is_made(&rt, rt.alloc(), 2, 4, 7)?);
+    assert!(rt; is_made(&rt, rt.alloc(), 3, 0, 200)?);
+    Ok(())
+}
+
+// Frames 4 to 10, each three times its number and two more, by two workers.
+#[test]
+fn seven_frames_by_two_seats(rt: HostRuntime) -> Result<(), Fail> {
+    let mut seats = seated(rt.alloc(), 2)?;
+    let pieces = window(&rt, rt.alloc(), &maker(None), &mut seats, 4, 7, &NoGate)?;
+    let made = [14, 17, 20, 23, 26, 29, 32];
+    assert_eq!(rt; pieces.len(), 7);
+    for (piece, expected) in pieces.iter().zip(&made) {
+        assert_eq!(rt; piece.made, *expected);
+    }
+    Ok(())
+}
+
+// The worker of frame 0 is held until the other one has made the six frames after it.
+#[test]
+fn one_is_held_while_the_other_claims_the_rest(rt: HostRuntime) -> Result<(), Fail> {
+    let mut seats = seated(rt.alloc(), 2)?;
+    let gate = HeldFrame::until(0, 6);
+    let pieces = window(&rt, rt.alloc(), &maker(None), &mut seats, 0, 7, &gate)?;
+    assert!(rt; are_from(&pieces, 0));
+    assert_eq!(rt; pieces.len(), 7);
+    assert!(rt; gate.saw_another());
+    assert!(rt; some_made(&seats, 1));
+    assert!(rt; some_made(&seats, 6));
+    Ok(())
+}
+
+// There is no memory for the second of four frames: the others are made, nothing is handed out, and no seat is lost.
 #[test]
 fn want_of_memory_leaves_the_seats(rt: HostRuntime) -> Result<(), Fail> {
     let mut seats = seated(rt.alloc(), 4)?;
@@ -126,10 +164,10 @@ fn want_of_memory_leaves_the_seats(rt: HostRuntime) -> Result<(), Fail> {
     );
     assert!(rt; refused.is_err());
     assert_eq!(rt; seats.len(), 4);
-    assert_eq!(rt; count_made(&seats, 1), 4);
+    assert_eq!(rt; made_by_all(&seats), 4);
     let again = window(&rt, rt.alloc(), &maker(None), &mut seats, 20, 4, &NoGate)?;
     assert!(rt; are_from(&again, 20));
-    assert_eq!(rt; count_made(&seats, 2), 4);
+    assert_eq!(rt; made_by_all(&seats), 8);
     Ok(())
 }
 
