@@ -16,4 +16,4 @@ module _ (k l : NamedLft) (E MAX : RattleType) (d : draw.Ghosts E.Denot (value_o
   pub maker_sync : IsSync (the_row k l E MAX d e)
   maker_sync =
       recorded_sync (the_field k l E MAX d e).row _ _ (the_type k l E MAX d e).to_one
-      (struct_sync (shape (the_type k l E MAX d e)) (search (sendable) depth 20, (search (sendable, scene.the_sync) depth 20, (search (sendable, sync) depth 20, (search (sendable, comp.the_sync) depth 20, (search (sendable, cache_sync, value.the_send, value.the_sync) depth 20, tt))))))
+      (struct_sync (shape (the_type k l E MAX d e)) (search (sendable) depth 20, (search (sendable, scene.the_sync) depth 20, (search (sendable, sync) depth 20, (search (sendable, comp.the_sync) depth 20, (search (sendable, cache_sync, value.the_send, value.the_sync) depth 20, (search (sendable) depth 20, tt)))))))

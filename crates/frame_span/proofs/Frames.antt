@@ -23,7 +23,7 @@ use Rattle.frame_worker.specs.Window.{AreFrames}
 use Rattle.frame_span.proofs.Known.{prefix_trans}
 
 -- one more number at the end of a range, and what a list made from it gains
-range_more : (a n m j : ℕ) → m ≡ suc n → a + n ≡ j → range_with_len a m ≡ range_with_len a n ++ j ∷ []
+pub range_more : (a n m j : ℕ) → m ≡ suc n → a + n ≡ j → range_with_len a m ≡ range_with_len a n ++ j ∷ []
 range_more a zero m j e k = ap (range_with_len a) e ∙ ap (λ t. t ∷ []) (omega arith)
 range_more a (suc n) m j e k = ap (range_with_len a) e ∙ ap (λ xs. a ∷ xs) (range_more (a + 1) n (suc n) j refl (omega arith))
 
@@ -78,7 +78,7 @@ picture_same depth width height f g same =
     (λ y. flat_map_same (λ x. pixel_bytes depth (f (pos x) (pos y))) (λ x. pixel_bytes depth (g (pos x) (pos y))) 0 width
     (λ x. ap (pixel_bytes depth) (same (pos x) (pos y))))
 
-count_from_zero : (n : ℕ) → count_between (pos 0) (pos n) ≡ n
+pub count_from_zero : (n : ℕ) → count_between (pos 0) (pos n) ≡ n
 count_from_zero n = ap positive_part (+ℤ_idr (pos n))
 
 is_bit_depth-cases : (depth : ℕ) → IsTrue (is_bit_depth depth) → (depth ≡ 8) ⊎ (depth ≡ 16)

@@ -1,3 +1,4 @@
 pub mod Crossing
 pub mod Frames
 pub mod Known
+pub mod Pixels

@@ -1,12 +1,14 @@
 ghost use Rattle.std.specs.Prelude.{◌≡◌};
 
 use host_io::SinkError;
+use thiserror::Error;
 
 /// Why a span is not written.
-#[derive(Clone, Copy, Debug, Drop, PartialEq, Eq)]
+#[derive(Clone, Copy, Debug, Drop, PartialEq, Eq, Error)]
 pub enum RenderError {
-    /// The sink failed.
+    #[error("the output could not be written")]
     WriteFault,
+    #[error("out of memory")]
     Memory,
 }
 

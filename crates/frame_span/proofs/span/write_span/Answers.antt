@@ -9,15 +9,22 @@ use Rattle.frame_span.specs.Effects.{Effects, drawing_at, scene_of}
 use Rattle.scene_meaning.specs.Scene.{SceneParts, plain_scene}
 use Rattle.project_model.specs.declared.plain.PlainComp.{PlainComp}
 use Rattle.scene_meaning.specs.Output.{file, root_of, root_file}
+use Rattle.frame_span.specs.Lines.{lines, root_lines}
+use Rattle.frame_span.specs.Forms.{root_text, span_text}
+use Rattle.frame_span.specs.declared.form.Form.{Form}
+use Rattle.frame_span.specs.declared.form.Form.TheVariants as form
 use Rattle.frame_span.specs.Written.{AppendsFront}
 use Rattle.frame_span.proofs.span.write_span.Goals as goal
 
--- the file of a scene is that of its root, with what the effects draw at its depth
-file_is : (effects : Effects) (parts : SceneParts) (comp : PlainComp) (drawing : Drawing) (from to : ℕ) → root_of (plain_of parts.project) ≡ Some comp → drawing ≡ drawing_at effects parts.project.depth
-    → root_file (plain_scene parts effects.set drawing) comp from (to + 1 - from) ≡ file (scene_of effects parts) from to
-file_is effects parts comp drawing from to e same =
-    let file_at : Option PlainComp → ℕ → ℕ → List ℕ = λ o. elim o [ None ↦ λ first last. [] | Some root ↦ λ first last. root_file (plain_scene parts effects.set drawing) root first (last + 1 - first) ] in
-    sym (ap (λ o. file_at o from to) e) ∙ ap (λ (d : Drawing). file (plain_scene parts effects.set d) from to) same
+-- what is written of a span of a scene is that of its root, with what the effects draw at its depth
+text_is : (f : Form) (effects : Effects) (parts : SceneParts) (comp : PlainComp) (drawing : Drawing) (from to : ℕ) → root_of (plain_of parts.project) ≡ Some comp → drawing ≡ drawing_at effects parts.project.depth
+    → root_text f (plain_scene parts effects.set drawing) comp from (to + 1 - from) ≡ span_text f (scene_of effects parts) from to
+text_is form.File effects parts comp drawing from to e same =
+    let text_at : Option PlainComp → ℕ → ℕ → List ℕ = λ o. elim o [ None ↦ λ first last. [] | Some root ↦ λ first last. root_file (plain_scene parts effects.set drawing) root first (last + 1 - first) ] in
+    sym (ap (λ o. text_at o from to) e) ∙ ap (λ (d : Drawing). file (plain_scene parts effects.set d) from to) same
+text_is form.Lines effects parts comp drawing from to e same =
+    let text_at : Option PlainComp → ℕ → ℕ → List ℕ = λ o. elim o [ None ↦ λ first last. [] | Some root ↦ λ first last. root_lines (plain_scene parts effects.set drawing) root first (last + 1 - first) ] in
+    sym (ap (λ o. text_at o from to) e) ∙ ap (λ (d : Drawing). lines (plain_scene parts effects.set d) from to) same
 
 -- at 8 bits they draw what they draw there, and elsewhere what they draw at 16
 narrow_at : (effects : Effects) (depth : ℕ) → depth ≡ 8 → effects.narrow ≡ drawing_at effects depth
@@ -46,7 +53,7 @@ returns-then-project-eq8-clause-front g c =
     let written = g.K.Sink.written in
     let parts = c.args.scene.now in
     subst (λ bytes. OnErr c.write_root.result (AppendsFront (written c.args.out.now) (written c.write_root.new.out) bytes))
-    (file_is effects parts (plain_comp c.root_of-comp.result.now) narrow c.args.span.from c.args.span.to c.root_of-comp.ensures.root
+    (text_is c.args.form effects parts (plain_comp c.root_of-comp.result.now) narrow c.args.span.from c.args.span.to c.root_of-comp.ensures.root
     (narrow_at effects parts.project.depth (sym (ap (λ (p : Project). p.depth) c.project.ensures.project) ∙ c.if-project-eq8.true)))
     c.write_root.ensures.front
 
@@ -66,7 +73,7 @@ returns-then-project-eq8-clause-whole g c =
     let written = g.K.Sink.written in
     let parts = c.args.scene.now in
     subst (λ bytes. OnOk c.write_root.result (Appends (written c.args.out.now) (written c.write_root.new.out) bytes))
-    (file_is effects parts (plain_comp c.root_of-comp.result.now) narrow c.args.span.from c.args.span.to c.root_of-comp.ensures.root
+    (text_is c.args.form effects parts (plain_comp c.root_of-comp.result.now) narrow c.args.span.from c.args.span.to c.root_of-comp.ensures.root
     (narrow_at effects parts.project.depth (sym (ap (λ (p : Project). p.depth) c.project.ensures.project) ∙ c.if-project-eq8.true)))
     c.write_root.ensures.whole
 
@@ -86,7 +93,7 @@ returns-else-project-eq8-clause-whole g c =
     let written = g.K.Sink.written in
     let parts = c.args.scene.now in
     subst (λ bytes. OnOk c.write_root-else-project-eq8.result (Appends (written c.args.out.now) (written c.write_root-else-project-eq8.new.out) bytes))
-    (file_is effects parts (plain_comp c.root_of-comp.result.now) wide c.args.span.from c.args.span.to c.root_of-comp.ensures.root
+    (text_is c.args.form effects parts (plain_comp c.root_of-comp.result.now) wide c.args.span.from c.args.span.to c.root_of-comp.ensures.root
     (wide_at effects parts.project.depth (λ is. c.if-project-eq8.false (ap (λ (p : Project). p.depth) c.project.ensures.project ∙ is))))
     c.write_root-else-project-eq8.ensures.whole
 
@@ -106,6 +113,6 @@ returns-else-project-eq8-clause-front g c =
     let written = g.K.Sink.written in
     let parts = c.args.scene.now in
     subst (λ bytes. OnErr c.write_root-else-project-eq8.result (AppendsFront (written c.args.out.now) (written c.write_root-else-project-eq8.new.out) bytes))
-    (file_is effects parts (plain_comp c.root_of-comp.result.now) wide c.args.span.from c.args.span.to c.root_of-comp.ensures.root
+    (text_is c.args.form effects parts (plain_comp c.root_of-comp.result.now) wide c.args.span.from c.args.span.to c.root_of-comp.ensures.root
     (wide_at effects parts.project.depth (λ is. c.if-project-eq8.false (ap (λ (p : Project). p.depth) c.project.ensures.project ∙ is))))
     c.write_root-else-project-eq8.ensures.front
