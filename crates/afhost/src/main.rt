@@ -1,4 +1,4 @@
-//! The program: renders the project on standard input to standard output, as an AFR file, with the stock effects. Its clips are the files of the folder
+//! The program: renders the project on standard input to standard output, as an AFR file or as its words ask, with the stock effects. Its clips are the files of the folder
 //! `clips` below the current one.
 #![tactic(auto)]
 

@@ -1,5 +1,5 @@
 -- Several reads, one after another.
-use Rattle.std.proofs.Common.{◌≡◌, ℕ, List, [], ◌++◌, Option, Some, None, refl, sym, ◌∙◌, ap, append_assoc, length, ◌<◌, length-append, arith}
+use Rattle.std.proofs.Common.{ℕ, List, [], ◌++◌, Option, Some, None, refl, sym, ◌∙◌, ap, append_assoc, length, ◌<◌, length-append, arith}
 use Rattle.std.specs.Prelude.{IfSome}
 use Rattle.host_run.specs.Input.{TakesSome}
 use Rattle.std.specs.Io.KnownBytes.{Consumes, Keeps}

@@ -1,3 +1,4 @@
+pub mod Answered
 pub mod Ended
 pub mod Exit
 pub mod Known

@@ -3,6 +3,10 @@ use Rattle.std.specs.Prelude.{Result, Ok, Err, List, [], ◌∷◌, ◌++◌, co
 use Rattle.std.specs.Option.{option_map_or}
 use Rattle.host_io.specs.declared.status.Status.{Status}
 use Rattle.host_io.specs.declared.status.Status.TheVariants as status
+use Rattle.host_io.specs.declared.cause.SinkError.{SinkError}
+use Rattle.host_io.specs.declared.cause.SinkError.TheVariants as sink
+use Rattle.project_model.specs.declared.passing.CheckError.{CheckError}
+use Rattle.project_model.specs.declared.passing.CheckError.TheVariants as check
 use Rattle.frame_span.specs.declared.error.RenderError.{RenderError}
 use Rattle.frame_span.specs.declared.error.RenderError.TheVariants as render
 use Rattle.project_json.specs.declared.error.ProjectError.{ProjectError}
@@ -16,8 +20,8 @@ use Rattle.host_run.specs.declared.input.ReadError.{ReadError}
 use Rattle.host_run.specs.declared.input.ReadError.TheVariants as read
 use Rattle.host_run.specs.declared.arguments.ArgumentsError.{ArgumentsError}
 use Rattle.host_run.specs.declared.arguments.ArgumentsError.TheVariants as arguments
-use Rattle.host_run.specs.declared.words.WordsError.{WordsError}
-use Rattle.host_run.specs.declared.words.WordsError.TheVariants as words
+use Rattle.run_words.specs.declared.words.WordsError.{WordsError}
+use Rattle.run_words.specs.declared.words.WordsError.TheVariants as words
 use Rattle.host_run.specs.declared.notes.Ending.{Ending}
 use Rattle.host_run.specs.declared.notes.Ending.TheVariants.{Words, NotJson, Rule, ClipMissing, ClipRefused, ClipFault, ReadFault, WriteFault, Memory, Span, ProjectTooLong}
 
@@ -57,6 +61,20 @@ ending_of_project project.Memory = Memory
 abbrev pub ending_of_rendering : RenderError → Ending
 ending_of_rendering render.WriteFault = WriteFault
 ending_of_rendering render.Memory = Memory
+
+-- how it ends after a render
+abbrev pub end_of_rendering : {T : Type 0} → Result T RenderError → Result (Unit {0}) Ending
+end_of_rendering (Ok closed) = Ok tt
+end_of_rendering (Err error) = Err (ending_of_rendering error)
+
+abbrev pub ending_of_sink : SinkError → Ending
+ending_of_sink sink.Failed = WriteFault
+ending_of_sink sink.Memory = Memory
+
+-- how a run ends where a generated project is refused
+abbrev pub ending_of_check : CheckError → Ending
+ending_of_check (check.RuleBroken rule comp layer) = Rule rule
+ending_of_check check.Memory = Memory
 
 -- the name of the clip of an index, empty where there is none
 abbrev pub name_at : List ClipUse → ℕ → List ℕ

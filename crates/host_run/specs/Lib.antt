@@ -1,3 +1,4 @@
+pub mod CheckLine
 pub mod Ending
 pub mod Exit
 pub mod Found
@@ -7,4 +8,3 @@ pub mod Laws
 pub mod Outcome
 pub mod Run
 pub mod Stages
-pub mod Words

@@ -1,7 +1,6 @@
--- What the steps of a run say of themselves: reading the project, reading its clips, and finding the span.
-use Rattle.std.specs.Prelude.{◌≡◌, ℕ, ◌<◌, ◌≤◌, List, length, Option, Result, Ok, Err}
-use Rattle.std.specs.Io.KnownBytes.{Consumes, IsAtEnd}
-use Rattle.project_model.specs.declared.plain.PlainProject.{PlainProject}
+-- What the steps of a run say of themselves: reading the project, reading its clips, finding the span, and writing.
+use Rattle.std.specs.Prelude.{◌≡◌, ℕ, ◌<◌, ◌≤◌, List, length, Option, Some, Result, Ok, Err}
+use Rattle.std.specs.Io.KnownBytes.{Consumes, IsAtEnd, Appends}
 use Rattle.project_model.specs.declared.project.Project.{Project}
 use Rattle.project_model.specs.Plain.{plain_of}
 use Rattle.project_model.specs.Sound.{IsSound}
@@ -9,14 +8,17 @@ use Rattle.project_model.specs.Uses.{AreUses}
 use Rattle.project_model.specs.declared.effect.EffectSchema.{EffectSchema}
 use Rattle.project_json.specs.Reading.{project_of}
 use Rattle.project_json.specs.declared.error.ProjectError.TheVariants as project
-use Rattle.host_run.specs.Outcome.{accepted, span_refused, outcome_of_span, last_asked}
+use Rattle.host_run.specs.Outcome.{outcome, accepted, span_refused, outcome_of_span, last_asked, reads_source}
 use Rattle.scene_meaning.specs.Scene.{SceneParts}
 use Rattle.scene_meaning.specs.Shown.{PlainScene}
 use Rattle.host_run.specs.Found.{Found, IsFoundIn, IsReached, missing, refused, clips_from}
-use Rattle.host_run.specs.Run.{Seen, SeenStore, WorksWell, Fails, calls_of}
+use Rattle.frame_span.specs.Effects.{Effects, scene_of}
+use Rattle.frame_span.specs.Written.{AppendsFront}
+use Rattle.host_run.specs.Run.{Seen, SeenStore, WorksWell, Fails, IsUntouched, Leaves, HasEnded, calls_of}
+use Rattle.host_run.specs.declared.ready.Ready.{Ready}
 use Rattle.host_run.specs.declared.input.TheConstants.{LONGEST_TEXT}
-use Rattle.host_run.specs.declared.settings.Settings.{Settings}
-use Rattle.host_run.specs.declared.span.Span.{Span}
+use Rattle.run_words.specs.declared.settings.Settings.{Settings}
+use Rattle.frame_span.specs.declared.span.Span.{Span}
 use Rattle.host_run.specs.declared.notes.Ending.{Ending}
 use Rattle.host_run.specs.declared.notes.Ending.TheVariants as ending
 
@@ -77,3 +79,27 @@ HasSpan settings scene (Ok span) =
 HasSpan settings scene (Err (ending.Span from to count)) =
     outcome_of_span scene settings.from (last_asked settings scene.project) ≡ span_refused from to count
 HasSpan settings scene (Err other) = ⊥
+
+-- The settings, the bytes that the source handed out and the clips come to a scene and a span of it.
+pub record IsReady (effects : Effects) (settings : Settings) (ready : Ready) (source : Seen) (store : SeenStore) : Type 0 where
+  pub bytes : List ℕ
+  pub taken : Consumes source.before source.now bytes
+  pub left : Leaves (reads_source settings.mode) (Ok tt) source
+  pub works : WorksWell source
+  pub found : Found
+  pub handed : IsFoundIn store.clips found
+  pub kept : store.clips_now ≡ store.clips
+  pub store_works : WorksWell (calls_of store)
+  pub read : outcome effects (Some settings) bytes found ≡ accepted (scene_of effects ready.scene) ready.span.from ready.span.to
+
+-- they do, or the run has ended, whatever sink there is to which nothing was written
+abbrev pub IsPrepared : Effects → Settings → Result Ready Ending → Seen → SeenStore → Type 0
+IsPrepared effects settings (Ok ready) source store = IsReady effects settings ready source store
+IsPrepared effects settings (Err e) source store = (sink : Seen) → IsUntouched sink → HasEnded effects (Some settings) (Err e) source store sink
+
+-- these bytes were written, or a front of them where the sink or memory failed
+abbrev pub HasOutput : List ℕ → Result (Unit {0}) Ending → Seen → Type 0
+HasOutput whole (Ok done) sink = Appends sink.before sink.now whole × WorksWell sink
+HasOutput whole (Err ending.WriteFault) sink = AppendsFront sink.before sink.now whole × Fails sink
+HasOutput whole (Err ending.Memory) sink = AppendsFront sink.before sink.now whole × WorksWell sink
+HasOutput whole (Err other) sink = ⊥

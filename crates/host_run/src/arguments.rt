@@ -3,7 +3,8 @@ ghost use Rattle.std.specs.Process.{exit_status};
 ghost use Rattle.host_run.specs.Ending.{ending_of_arguments};
 ghost use Rattle.host_run.specs.Exit.{HasExited, HasRefused};
 ghost use Rattle.host_run.specs.Headline.{IsRendered};
-ghost use Rattle.host_run.specs.Words.{words_of};
+ghost use Rattle.host_run.specs.Outcome.{mode_of};
+ghost use Rattle.run_words.specs.Words.{words_of};
 ghost use Rattle.host_run.specs.Run.{seen_of, seen_store};
 
 use crate::host::run;
@@ -11,6 +12,7 @@ use crate::notes::{Ending, note};
 use effect_api::Draw;
 use frame_span::HasEffects;
 use host_io::{ClipStore, Gate, Sink, Source, Status};
+use run_words::RunMode;
 use std::alloc::Global;
 use std::process::ExitCode;
 use std::sync::Wait;
@@ -46,8 +48,9 @@ pub fn program<
     gate: &G,
 ) -> ExitCode
 
-    // With the code 0 the bytes written are the file of the span of the project that the bytes left were read as, with its clips.
-    ensures headline { exit_status result ≡ 0 → IsOkAnd arguments (λ a. IsRendered ⟦<E as HasEffects>⟧.effects (words_of (map string_bytes (drop 1 a.items)))
+    // With the code 0, in mode render, the bytes written are the file of the span of the project that the bytes left were read as, with its clips.
+    ensures headline { exit_status result ≡ 0 → IsOkAnd arguments (λ a. mode_of (words_of (map string_bytes (drop 1 a.items))) ≡ RunMode.Render
+        → IsRendered ⟦<E as HasEffects>⟧.effects (words_of (map string_bytes (drop 1 a.items)))
         (seen_of S.left S.faults project.old project.new) (seen_store C.clips C.faults clips.old clips.new)
         (seen_of K.written K.faults out.old out.new)) }
 

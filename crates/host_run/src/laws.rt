@@ -2,8 +2,7 @@
 
 ghost use Rattle.host_run.specs.Laws.{NumbersOfARun};
 
-/// The longest text of a project in bytes, the most digits of a number, the last frame that words may name, and the
-/// defaults of workers, budget and number.
+/// The longest text of a project in bytes, and that words may ask for as many workers as draw a span.
 pub fn numbers_of_a_run()
     ensures { NumbersOfARun }
 {}

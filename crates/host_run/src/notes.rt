@@ -12,7 +12,7 @@ use host_io::{Sink, SinkError, Status};
 use project_model::Text;
 use std::alloc::{AllocError, Global};
 
-/// Why no file was written, or not the whole of it.
+/// Why a run wrote nothing, or not all of its output.
 #[derive(Debug, Drop)]
 pub(crate) enum Ending {
     Words,
@@ -48,6 +48,16 @@ impl Ending {
             Ending::Span(..) => Status::Span,
             Ending::ProjectTooLong => Status::ProjectTooLong,
         }
+    }
+}
+
+/// The status of a run that ended so. Where it did not end well, the line that says why is written.
+pub(crate) fn tell<N: Sink>(alloc: Global, end: Result<(), Ending>, notes: &mut N) -> Status
+    ensures { IsNoted end result (seen_of N.written N.faults notes.old notes.new) }
+{
+    match end {
+        Ok(()) => Status::Ok,
+        Err(ending) => note(alloc, ending, notes),
     }
 }
 

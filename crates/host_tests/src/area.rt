@@ -30,10 +30,11 @@ use std::sync::atomic::{AtomicU64, Ordering};
 use std::test::Fail;
 
 /// The stock set, which adds up the areas of the parts that it draws, and counts its analyses. While it draws it looks so often for
-/// another drawing, and counts those that saw one.
+/// another drawing, and counts those that saw one. After so many drawings it has no memory for one more.
 #[derive(Drop)]
 pub(crate) struct Counting {
     pub(crate) looks: u32,
+    pub(crate) most: u64,
     pub(crate) area: AtomicU64,
     pub(crate) analyses: AtomicU64,
     pub(crate) drawings: AtomicU64,
@@ -45,6 +46,7 @@ impl Counting {
     pub(crate) fn new(looks: u32) -> Counting {
         Counting {
             looks,
+            most: u64::MAX,
             area: AtomicU64::new(0),
             analyses: AtomicU64::new(0),
             drawings: AtomicU64::new(0),
@@ -53,15 +55,18 @@ impl Counting {
     }
 
     // One drawing more, which looks for another.
-    fn meet(&self) {
-        self.drawings.fetch_add(1, Ordering::SeqCst);
+    fn meet(&self) -> Result<(), Memory> {
+        if self.drawings.fetch_add(1, Ordering::SeqCst) >= self.most {
+            return Err(Memory);
+        }
         for _ in 0..self.looks {
             if self.drawings.load(Ordering::SeqCst) > 1 {
                 self.met.fetch_add(1, Ordering::SeqCst);
-                return;
+                break;
             }
             hint::spin_loop();
         }
+        Ok(())
     }
 }
 
@@ -150,7 +155,7 @@ impl<const MAX: u32> Draw<MAX> for Counting {
         ensures drawn { OnOk result (Shows target.old.part
             (part_draws MAX (part_of fx.now.kind) (use_of fx.now) at (planes_of pixels.now.pairs) (sums_in sums.now)) target.new) }
     {
-        self.meet();
+        self.meet()?;
         self.area.fetch_add(target.part().area(), Ordering::SeqCst);
         Stock.smart_render(alloc, fx, at, pixels, sums, target)
     }

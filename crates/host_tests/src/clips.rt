@@ -103,7 +103,7 @@ fn ends(
 }
 
 /// A clip of two pictures of one pixel, in three frames.
-const ONE_CLIP: &str =
+pub(crate) const ONE_CLIP: &str =
     "{\"version\":1,\"depth\":8,\"root\":0,\"clips\":[{\"name\":\"a.afr\",\"width\":1,\"height\":1,\"depth\":8,\"frame\":[1,24],\"frames\":2}],\"comps\":[{\"width\":1,\"height\":1,\"frame\":[1,24],\"frames\":3,\"layers\":[{\"source\":{\"clip\":0}}]}]}";
 
 /// Two of them, side by side.
@@ -112,7 +112,7 @@ const TWO_CLIPS: &str =
 
 const TWO_PICTURES: &[u8] = &[255, 10, 20, 30, 128, 1, 2, 3];
 
-const A: File = ("a.afr", 1, 8, 2, TWO_PICTURES);
+pub(crate) const A: File = ("a.afr", 1, 8, 2, TWO_PICTURES);
 
 const B: File = ("b.afr", 1, 8, 2, &[255, 0, 0, 9, 0, 0, 0, 0]);
 

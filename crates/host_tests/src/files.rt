@@ -17,7 +17,7 @@ fn pixels_of_both_depths(rt: HostRuntime) -> Result<(), Fail> {
     let mut wide: World<32768> = World::blank(rt.alloc(), point, point)?;
     wide.set(0, 0, Pixel::of_channels(32768, 16384, 0, 1));
     assert_eq!(rt;
-        frame_bytes(rt.alloc(), &wide)?.as_slice(),
+        frame_bytes(&rt, rt.alloc(), &wide)?.as_slice(),
         [0x80, 0, 0x40, 0, 0, 0, 0, 1].as_slice()
     );
     assert_eq!(rt;
@@ -33,7 +33,7 @@ fn pixels_of_both_depths(rt: HostRuntime) -> Result<(), Fail> {
     let mut narrow: World<255> = World::blank(rt.alloc(), tall, tall)?;
     narrow.set(5, -1, Pixel::of_channels(255, 10, 20, 30));
     assert_eq!(rt;
-        frame_bytes(rt.alloc(), &narrow)?.as_slice(),
+        frame_bytes(&rt, rt.alloc(), &narrow)?.as_slice(),
         [255, 10, 20, 30, 0, 0, 0, 0].as_slice()
     );
     assert_eq!(rt;

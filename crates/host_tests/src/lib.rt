@@ -12,7 +12,11 @@ mod effects;
 #[cfg(test)]
 mod files;
 #[cfg(test)]
+mod lying;
+#[cfg(test)]
 mod mixed;
+#[cfg(test)]
+mod modes;
 #[cfg(test)]
 mod nested;
 #[cfg(test)]

@@ -3,9 +3,8 @@ ghost use Rattle.std.specs.Prelude.{◌≡◌, ◌<◌};
 
 use fx_stock::Stock;
 use host_io::{MemSink, MemSource, NeverClips, NeverSink, NeverSource, NoGate, Source, Status};
-use host_run::{
-    ArgumentsError, DEFAULT_BUDGET, DEFAULT_WORKERS, WordsError, program, read_words, run,
-};
+use host_run::{ArgumentsError, program, run};
+use run_words::{DEFAULT_BUDGET, DEFAULT_WORKERS, RunMode, WordsError, read_words};
 use std::alloc::{AllocError, Global};
 use std::collections::BTreeMap;
 use std::process::ExitCode;
@@ -13,10 +12,10 @@ use std::sync::Wait;
 use std::test::Fail;
 use std::thread::Threads;
 
-const TWO_PIXELS: &[u8] =
+pub(crate) const TWO_PIXELS: &[u8] =
     b"{\"version\":1,\"depth\":8,\"root\":0,\"comps\":[{\"width\":2,\"height\":1,\"frame\":[1,24],\"frames\":1,\"layers\":[{\"source\":{\"solid\":[2,1,255,10,20,30]}}]}]}";
 
-const TWO_PIXEL_FILE: [u8; 37] = [
+pub(crate) const TWO_PIXEL_FILE: [u8; 37] = [
     0x41, 0x46, 0x52, 0x31, 0, 0, 0, 2, 0, 0, 0, 1, 8, 0, 0, 0, 1, 0, 0, 0, 0x18, 0, 0, 0, 0, 0, 0,
     0, 1, 0xff, 0x0a, 0x14, 0x1e, 0xff, 0x0a, 0x14, 0x1e,
 ];
@@ -50,10 +49,10 @@ const NO_SUCH_EFFECT: &[u8] =
 
 /// What a run over memory ended with and wrote.
 #[derive(Drop)]
-struct Ran {
-    status: Status,
-    out: Vec<u8>,
-    note: Vec<u8>,
+pub(crate) struct Ran {
+    pub(crate) status: Status,
+    pub(crate) out: Vec<u8>,
+    pub(crate) note: Vec<u8>,
 }
 
 /// The words of a text, in which each but the last ends with a bar.
@@ -73,7 +72,7 @@ pub(crate) fn no_clips(alloc: Global) -> NeverClips {
 }
 
 /// Runs over a source and a sink whose calls move at most a piece and fail at one call.
-fn run_over(
+pub(crate) fn run_over(
     rt: &(impl Threads + Wait + Sync),
     alloc: Global,
     words: &str,
@@ -192,6 +191,49 @@ fn workers_and_budget_are_numbers(rt: HostRuntime) -> Result<(), Fail> {
             (Ok(settings), Some((workers, budget))) => {
                 assert_eq!(rt; settings.workers, workers, "at {texts:?}");
                 assert_eq!(rt; settings.budget, budget, "at {texts:?}");
+            }
+            (Err(WordsError::Refused), None) => {}
+            (outcome, _) => assert!(rt; false, "{outcome:?} at {texts:?}"),
+        }
+    }
+    Ok(())
+}
+
+#[test]
+fn modes_and_seeds_are_read(rt: HostRuntime) -> Result<(), Fail> {
+    let cases: [(&str, Option<(RunMode, u32)>); 22] = [
+        ("", Some((RunMode::Render, 1))),
+        ("--mode|render", Some((RunMode::Render, 1))),
+        ("--mode=check", Some((RunMode::Check, 1))),
+        ("--mode|summary", Some((RunMode::Summary, 1))),
+        ("--seed|0|--mode=demo", Some((RunMode::Demo, 0))),
+        (
+            "--mode|demo|--seed=4294967295",
+            Some((RunMode::Demo, 4_294_967_295)),
+        ),
+        ("--seed=0000000000007", Some((RunMode::Render, 7))),
+        ("--seed=4294967296", None),
+        ("--seed|-1", None),
+        ("--seed", None),
+        ("--seed=1|--seed=1", None),
+        ("--mode|Check", None),
+        ("--mode|1", None),
+        ("--mode=", None),
+        ("--mode|", None),
+        ("--mode", None),
+        ("--mode|check|--mode|check", None),
+        ("--mode|--seed|1", None),
+        ("--mo|check", None),
+        ("--mode check", None),
+        ("--help", None),
+        ("-m|check", None),
+    ];
+    for (texts, want) in cases {
+        let words = words_of(rt.alloc(), texts)?;
+        match (read_words(rt.alloc(), &words), want) {
+            (Ok(settings), Some((mode, number))) => {
+                assert_eq!(rt; settings.mode, mode, "at {texts:?}");
+                assert_eq!(rt; settings.number, number, "at {texts:?}");
             }
             (Err(WordsError::Refused), None) => {}
             (outcome, _) => assert!(rt; false, "{outcome:?} at {texts:?}"),
@@ -354,10 +396,16 @@ fn a_longer_text_is_refused(rt: HostRuntime) -> Result<(), Fail> {
 
 #[test]
 fn a_sink_that_fails_leaves_whole_pieces(rt: HostRuntime) -> Result<(), Fail> {
-    let ran = run_over(&rt, rt.alloc(), "", ONE_PIXEL_THRICE, 64, &[], &[2])?;
-    assert_eq!(rt; ran.status, Status::WriteFault);
-    assert_eq!(rt; ran.out.len(), 33);
-    assert_eq!(rt; ran.note.as_slice(), b"afhost: write fault\n".as_slice());
+    for words in ["", "--workers|1", "--workers|2"] {
+        let ran = run_over(&rt, rt.alloc(), words, ONE_PIXEL_THRICE, 64, &[], &[2])?;
+        assert_eq!(rt; ran.status, Status::WriteFault, "at {words:?}");
+        assert_eq!(rt; ran.out.len(), 33, "at {words:?}");
+        assert_eq!(rt;
+            ran.note.as_slice(),
+            b"afhost: write fault\n".as_slice(),
+            "at {words:?}"
+        );
+    }
     Ok(())
 }
 

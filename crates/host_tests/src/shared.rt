@@ -9,6 +9,7 @@ ghost use Rattle.scene_meaning.specs.Output.{frame_count};
 
 use crate::area::Counting;
 use crate::clips::run_with;
+use crate::runs::words_of;
 use compute_cache::{Cache, Classes, Pass};
 use effect_api::{Effect, set_is_lawful};
 use frame_draw::draw_frame;
@@ -235,10 +236,12 @@ fn an_analysis_is_made_once(rt: HostRuntime) -> Result<(), Fail> {
     let mut clips = NeverClips::new(BTreeMap::new(alloc));
     let mut out = NeverSink::new(alloc, 1000);
     let mut notes = NeverSink::new(alloc, 1000);
+    // One worker, so that each frame is a window of its own.
+    let words = words_of(alloc, "--workers|1")?;
     let status = run(
         &rt,
         alloc,
-        &[],
+        &words,
         &effects,
         &mut project,
         &mut clips,

@@ -4,7 +4,7 @@ use Rattle.host_run.specs.Run.{Seen, seen_of}
 use Rattle.host_run.specs.Stages.{HasRead, IsWhole}
 use Rattle.host_run.specs.declared.input.TheConstants.{LONGEST_TEXT}
 use Rattle.host_run.proofs.Ended.{read_refused}
-use Rattle.host_run.proofs.host.read_input.Goals as goal
+use Rattle.host_run.proofs.ready.read_input.Goals as goal
 
 pub returns : goal.returns
 returns g c =

@@ -1,9 +1,0 @@
-use Rattle.std.proofs.Common.{◌≡◌, ◌<◌, ◌^◌, take}
-use Rattle.host_run.specs.Words.{number_of_digits}
-use Rattle.host_run.proofs.words.number_of_digits.Given as goal
-
-abbrev pub invariant-digits : goal.invariant-digits
-invariant-digits l = record {
-  so_far : l.number ≡ number_of_digits (take l.digit-index l.digits);
-  bound : l.number < 10 ^ l.digit-index;
-}
